@@ -1,0 +1,4 @@
+pub mod OneReply
+pub mod Test
+pub mod Each
+pub mod Table
