@@ -1,4 +1,5 @@
 pub mod OneReply
 pub mod Test
 pub mod Each
+pub mod EachBool
 pub mod Table

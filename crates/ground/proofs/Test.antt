@@ -1,6 +1,6 @@
 -- A test that passes, taken apart and put together. Assumes nothing.
 use mathlib.Core.Path.{_≡_, refl}
-use mathlib.Core.Bool.{Bool, true, false, _&&_}
+use mathlib.Core.Bool.{Bool, true, false, _&&_, Bool·beq}
 use lib.Dec.{T}
 
 pub and-left : (a b : Bool) → T (a && b) → T a
@@ -18,3 +18,13 @@ both-left false b e = e
 pub both-right : (a b : Bool) → (a && b) ≡ true → b ≡ true
 both-right true b e = e
 both-right false b e = cc
+
+pub flag-true : (a : Bool) → T a → a ≡ true
+flag-true true t = refl
+flag-true false t = absurd t
+
+pub same-flag : (a b : Bool) → T (Bool·beq a b) → a ≡ b
+same-flag true true t = refl
+same-flag true false t = absurd t
+same-flag false true t = absurd t
+same-flag false false t = refl

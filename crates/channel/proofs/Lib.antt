@@ -1,0 +1,9 @@
+pub mod Built
+pub mod KindTable
+pub mod Units
+pub mod Words
+pub mod Majority
+pub mod HighestBit
+pub mod ReadBack
+pub mod RoundTrip
+pub mod OneReply

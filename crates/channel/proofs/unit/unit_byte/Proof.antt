@@ -1,0 +1,72 @@
+-- `channel::unit::unit_byte` meets its contract. Assumes nothing.
+use Rattle.channel.specs.Bytes.{byte}
+use mathlib.Core.Path.{ap}
+use Rattle.channel.proofs.Units.{byte-six, byte-seven-v1, byte-seven-v2}
+use borrow.Author.Needs.{needs}
+use Rattle.channel.proofs.unit.unit_byte.Statement.{statement}
+use Rattle.channel.proofs.unit.unit_byte.Tie as tie
+
+enum-told : tie.Need-enum-told
+enum-told c = search needs
+
+mul-t5 : tie.Need-mul-t5
+mul-t5 c = search needs
+
+add-t6 : tie.Need-add-t6
+add-t6 c = search needs
+
+enum-told-2 : tie.Need-enum-told-2
+enum-told-2 c = search needs
+
+mul-t8 : tie.Need-mul-t8
+mul-t8 c = search needs
+
+add-t9 : tie.Need-add-t9
+add-t9 c = search needs
+
+enum-told-3 : tie.Need-enum-told-3
+enum-told-3 c = search needs
+
+add-reversed : tie.Need-add-reversed
+add-reversed c = search needs
+
+reversed-requires : tie.Need-reversed-requires
+reversed-requires c κs = search needs
+
+enum-told-4 : tie.Need-enum-told-4
+enum-told-4 c = search needs
+
+reversed-requires-2 : tie.Need-reversed-requires-2
+reversed-requires-2 c κs = search needs
+
+returns : tie.Need-returns
+returns c = rw (c .enum-told .given .1) (ap byte (byte-six _ (search needs)))
+
+returns-2 : tie.Need-returns-2
+returns-2 c = rw (c .enum-told2 .given .1) (ap byte (byte-seven-v1 _ (search needs)))
+
+returns-3 : tie.Need-returns-3
+returns-3 c = rw (c .before .enum-told3 .given .1, c .reversed .ensures) (ap byte (byte-seven-v2 _ (search needs)))
+
+returns-4 : tie.Need-returns-4
+returns-4 c = rw (c .before .enum-told4 .given .1) (ap byte (c .reversed2 .ensures))
+
+pub unit-byte-spec : {M : Type 1} → statement M
+unit-byte-spec =
+    tie.close
+    (tie.spec
+    enum-told
+    mul-t5
+    add-t6
+    enum-told-2
+    mul-t8
+    add-t9
+    enum-told-3
+    add-reversed
+    reversed-requires
+    enum-told-4
+    reversed-requires-2
+    returns
+    returns-2
+    returns-3
+    returns-4)

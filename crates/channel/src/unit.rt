@@ -1,0 +1,137 @@
+// Units of data on the channel: the byte of a unit and the unit of a byte.
+use crate::byte::ChannelByte;
+ghost use mathlib.Core.Path.{_≡_};
+ghost use Prim.Native.Nat.{_<_, _^_};
+ghost use Rattle.channel.specs.Bytes.{byte};
+ghost use Rattle.channel.specs.Forms.{fits, unitByte, encoded, decoded, wordFits, encodedWord, wordOf};
+
+// A form whose unit is one byte: form 6, form 7 on version 1, form 7 on version 2, form 8.
+pub enum Form {
+    Six,
+    SevenV1,
+    SevenV2,
+    Eight,
+}
+
+pub enum Encoded {
+    Byte(ChannelByte),
+    OutOfRange,
+}
+
+pub enum Decoded {
+    Unit(u8),
+    NoData,
+}
+
+pub enum EncodedWord {
+    Pair(ChannelByte, ChannelByte),
+    OutOfRange,
+}
+
+// Whether the form has that unit.
+pub fn fits(f: Form, unit: u8) -> bool
+    ensures { λ r. ⌜ r ≡ fits f unit ⌝ }
+{
+    match f {
+        Form::Six => unit < 64,
+        Form::SevenV1 => unit < 128,
+        Form::SevenV2 => unit < 128,
+        Form::Eight => true,
+    }
+}
+
+// The bits of a byte the other way round, as form 8 has them.
+fn reversed(x: u8) -> u8
+    ensures { λ r. ⌜ r ≡ unitByte Form.Eight x ⌝ }
+{
+    x % 2 * 128
+        + x / 2 % 2 * 64
+        + x / 4 % 2 * 32
+        + x / 8 % 2 * 16
+        + x / 16 % 2 * 8
+        + x / 32 % 2 * 4
+        + x / 64 % 2 * 2
+        + x / 128
+}
+
+// The byte of a unit. Of a unit that the form does not have, the bits that it does have are taken.
+pub fn unit_byte(f: Form, unit: u8) -> ChannelByte
+    ensures { λ r. ⌜ r ≡ byte (unitByte f unit) ⌝ }
+{
+    match f {
+        Form::Six => ChannelByte(unit % 64 * 4 + 1),
+        Form::SevenV1 => ChannelByte(unit % 128 * 2 + 1),
+        Form::SevenV2 => ChannelByte(reversed(unit % 128 + 128)),
+        Form::Eight => ChannelByte(reversed(unit)),
+    }
+}
+
+pub fn encode(f: Form, unit: u8) -> Encoded
+    ensures { λ r. ⌜ r ≡ encoded f unit ⌝ }
+{
+    if fits(f, unit) {
+        Encoded::Byte(unit_byte(f, unit))
+    } else {
+        Encoded::OutOfRange
+    }
+}
+
+// The unit of a received byte. In form 6 a byte with B7 on is no data.
+pub fn decode(f: Form, b: ChannelByte) -> Decoded
+    ensures { λ r. ⌜ r ≡ decoded f (b .0) ⌝ }
+{
+    let x = b.0;
+    match f {
+        Form::Six => {
+            if x / 2 % 2 == 0 {
+                Decoded::Unit(x / 4)
+            } else {
+                Decoded::NoData
+            }
+        }
+        Form::SevenV1 => Decoded::Unit(x / 2),
+        Form::SevenV2 => Decoded::Unit(reversed(x) % 128),
+        Form::Eight => Decoded::Unit(reversed(x)),
+    }
+}
+
+// 2 to the w, for the w that an octet does not fill.
+fn size_below_octet(w: u8) -> u32
+    requires { ⌜ w < 8 ⌝ }
+    ensures { λ r. ⌜ r ≡ 2 ^ w ⌝ }
+{
+    1 << w
+}
+
+// Whether a word of w bits has that value. Every octet is a word of 8 bits or more.
+pub fn word_fits(w: u8, value: u8) -> bool
+    ensures { λ r. ⌜ r ≡ wordFits w value ⌝ }
+{
+    if w < 8 {
+        (value as u32) < size_below_octet(w)
+    } else {
+        true
+    }
+}
+
+// A word as a DL and a DH.
+pub fn encode_word(w: u8, value: u8) -> EncodedWord
+    ensures { λ r. ⌜ r ≡ encodedWord w value ⌝ }
+{
+    if word_fits(w, value) {
+        EncodedWord::Pair(ChannelByte::dl(value), ChannelByte::dh(value))
+    } else {
+        EncodedWord::OutOfRange
+    }
+}
+
+// The word of a DL's nibble and a DH's, modulo 2 to the w.
+pub fn word_of(w: u8, low: u8, high: u8) -> u8
+    ensures { λ r. ⌜ r ≡ wordOf w low high ⌝ }
+{
+    let value = low % 16 + high % 16 * 16;
+    if 8 <= w {
+        return value;
+    }
+    (value as u32 % size_below_octet(w)) as u8
+}
