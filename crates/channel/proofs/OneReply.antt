@@ -9,6 +9,8 @@ use Rattle.channel.proofs.byte.ChannelByte.kind.Reads as kind
 use Rattle.channel.proofs.unit.fits.Reads as fits
 use Rattle.channel.proofs.unit.unit_byte.Reads as unit-byte
 use Rattle.channel.proofs.unit.encode.Reads as encode
+use Rattle.channel.proofs.unit.is_data.Reads as is-data
+use Rattle.channel.proofs.unit.unit_in.Reads as unit-in
 use Rattle.channel.proofs.unit.decode.Reads as decode
 use Rattle.channel.proofs.unit.word_fits.Reads as word-fits
 use Rattle.channel.proofs.unit.encode_word.Reads as encode-word
@@ -39,6 +41,12 @@ unit-byte-one a r s x y p q = one-reply _ p q
 
 pub encode-one : (a : _) (r s : _) (x y : _) → encode.Post tt a r x → encode.Post tt a s y → r ≡ s
 encode-one a r s x y p q = one-reply _ p q
+
+pub is-data-one : (a : _) (r s : _) (x y : _) → is-data.Post tt a r x → is-data.Post tt a s y → r ≡ s
+is-data-one a r s x y p q = one-reply _ p q
+
+pub unit-in-one : (a : _) (r s : _) (x y : _) → unit-in.Post tt a r x → unit-in.Post tt a s y → r ≡ s
+unit-in-one a r s x y p q = one-reply _ p q
 
 pub decode-one : (a : _) (r s : _) (x y : _) → decode.Post tt a r x → decode.Post tt a s y → r ≡ s
 decode-one a r s x y p q = one-reply _ p q

@@ -1,16 +1,14 @@
 -- The byte of a unit and the unit of a byte, as the code computes them; each by one computed test over the 256 bytes. Assumes nothing.
-use mathlib.Core.Path.{_≡_, ap, sym}
+use mathlib.Core.Path.{_≡_, sym}
 use mathlib.Core.Bool.{true}
 use Prim.Native.Nat.{ℕ, _+_, _*_, _/_, _%_, _<_}
 use lib.Dec.{ltb, ltb→lt}
-use borrow.Author.Tests.{lt-ltb, ne-eqb}
+use borrow.Author.Tests.{lt-ltb}
 use Rattle.ground.specs.Digits.{val}
 use Rattle.ground.proofs.Each.{each, each-eq}
 use Rattle.channel.specs.Bytes.{laid}
-use Rattle.channel.specs.Forms.{fits, unitByte, unitIn, decoded}
-use Rattle.channel.specs.declared.unit.Form.{Form}
+use Rattle.channel.specs.Forms.{fits, unitByte, unitIn}
 use Rattle.channel.specs.declared.unit.Form.the-variants.{Six, SevenV1, SevenV2, Eight}
-use Rattle.channel.specs.declared.unit.Decoded.the-variants.{Unit, NoData}
 
 -- the bits of a byte the other way round, as the code sums them
 abbrev pub turned : ℕ → ℕ
@@ -41,25 +39,19 @@ module _ (u : ℕ) (h : u < 256) where
   unfolding fits
   fits-eight = sym (lt-ltb u 256 h)
 
-module _ (f : Form) (b : ℕ) where
-  pub decoded-six : f ≡ Six → b < 256 → b / 2 % 2 ≡ 0 → Unit (b / 4) ≡ decoded f b
-  unfolding decoded unitIn val
-  decoded-six e h t = rw (e, t) (ap Unit (each-eq (λ b. b / 4) (unitIn Six) 256 tt b h))
+module _ (b : ℕ) (h : b < 256) where
+  pub unit-six : b / 4 ≡ unitIn Six b
+  unfolding unitIn val
+  unit-six = each-eq (λ b. b / 4) (unitIn Six) 256 tt b h
 
-  pub decoded-six-not : f ≡ Six → (b / 2 % 2 ≡ 0 → ⊥) → NoData ≡ decoded f b
-  unfolding decoded
-  decoded-six-not e t = rw (e, ne-eqb _ _ t)
+  pub unit-seven-v1 : b / 2 ≡ unitIn SevenV1 b
+  unfolding unitIn val
+  unit-seven-v1 = each-eq (λ b. b / 2) (unitIn SevenV1) 256 tt b h
 
-  pub decoded-seven-v1 : f ≡ SevenV1 → b < 256 → Unit (b / 2) ≡ decoded f b
-  unfolding decoded unitIn val
-  decoded-seven-v1 e h = rw e (ap Unit (each-eq (λ b. b / 2) (unitIn SevenV1) 256 tt b h))
+  pub unit-seven-v2 : unitByte Eight b % 128 ≡ unitIn SevenV2 b
+  unfolding unitByte unitIn laid val
+  unit-seven-v2 = each-eq (λ b. unitByte Eight b % 128) (unitIn SevenV2) 256 tt b h
 
-  pub decoded-seven-v2 : (r : ℕ) → f ≡ SevenV2 → b < 256 → r ≡ unitByte Eight b → Unit (r % 128) ≡ decoded f b
-  unfolding decoded unitByte unitIn laid val
-  decoded-seven-v2 r e h t = rw (e, t) (ap Unit (each-eq (λ b. unitByte Eight b % 128) (unitIn SevenV2) 256 tt b h))
-
-  pub decoded-eight : (r : ℕ) → f ≡ Eight → b < 256 → r ≡ unitByte Eight b → Unit r ≡ decoded f b
-  unfolding decoded unitByte unitIn laid val
-  decoded-eight r e h t = rw (e, t) (ap Unit (each-eq (unitByte Eight) (unitIn Eight) 256 tt b h))
-
-pub ruleset decodings = (decoded-six, decoded-six-not, decoded-seven-v1, decoded-seven-v2, decoded-eight)
+  pub unit-eight : unitByte Eight b ≡ unitIn Eight b
+  unfolding unitByte unitIn laid val
+  unit-eight = each-eq (unitByte Eight) (unitIn Eight) 256 tt b h

@@ -3,7 +3,7 @@ use crate::byte::ChannelByte;
 ghost use mathlib.Core.Path.{_≡_};
 ghost use Prim.Native.Nat.{_<_, _^_};
 ghost use Rattle.channel.specs.Bytes.{byte};
-ghost use Rattle.channel.specs.Forms.{fits, unitByte, encoded, decoded, wordFits, encodedWord, wordOf};
+ghost use Rattle.channel.specs.Forms.{fits, unitByte, encoded, isData, unitIn, decoded, wordFits, encodedWord, wordOf};
 
 // A form whose unit is one byte: form 6, form 7 on version 1, form 7 on version 2, form 8.
 pub enum Form {
@@ -76,22 +76,37 @@ pub fn encode(f: Form, unit: u8) -> Encoded
     }
 }
 
-// The unit of a received byte. In form 6 a byte with B7 on is no data.
+// Whether a received byte is data: in form 6 a byte with B7 on is none.
+pub fn is_data(f: Form, b: ChannelByte) -> bool
+    ensures { λ r. ⌜ r ≡ isData f (b .0) ⌝ }
+{
+    match f {
+        Form::Six => b.0 / 2 % 2 == 0,
+        Form::SevenV1 => true,
+        Form::SevenV2 => true,
+        Form::Eight => true,
+    }
+}
+
+// The unit in a received byte.
+pub fn unit_in(f: Form, b: ChannelByte) -> u8
+    ensures { λ r. ⌜ r ≡ unitIn f (b .0) ⌝ }
+{
+    match f {
+        Form::Six => b.0 / 4,
+        Form::SevenV1 => b.0 / 2,
+        Form::SevenV2 => reversed(b.0) % 128,
+        Form::Eight => reversed(b.0),
+    }
+}
+
 pub fn decode(f: Form, b: ChannelByte) -> Decoded
     ensures { λ r. ⌜ r ≡ decoded f (b .0) ⌝ }
 {
-    let x = b.0;
-    match f {
-        Form::Six => {
-            if x / 2 % 2 == 0 {
-                Decoded::Unit(x / 4)
-            } else {
-                Decoded::NoData
-            }
-        }
-        Form::SevenV1 => Decoded::Unit(x / 2),
-        Form::SevenV2 => Decoded::Unit(reversed(x) % 128),
-        Form::Eight => Decoded::Unit(reversed(x)),
+    if is_data(f, b) {
+        Decoded::Unit(unit_in(f, b))
+    } else {
+        Decoded::NoData
     }
 }
 
