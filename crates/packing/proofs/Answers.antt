@@ -1,6 +1,6 @@
 -- What a call answers that refuses, and what one answers that has written. Assumes nothing.
 use mathlib.Core.Path.{_≡_, refl, ap, sym, _∙_, subst}
-use mathlib.Core.Bool.{Bool, true, false, cond, not, _||_, true≢false}
+use mathlib.Core.Bool.{Bool, true, false, not, _||_, true≢false}
 use mathlib.Core.List.{List, _++_}
 use Prim.Native.Nat.{ℕ, _+_, _-_, _^_, _≤_, _<_}
 use native.Mathlib.Nat.{add-sub-cancel-left}
@@ -12,7 +12,7 @@ use borrow.Author.Tests.{lt-ltb, le-ltb, eqb-true, not-false}
 use borrow.Rule.Slice.PartMut.{putMid}
 use Rattle.ground.specs.Digits.{allBelow}
 use Rattle.packing.specs.FormsOfData.{bitsOf, grouped, unitsFor, octetsIn, packed, unpacked}
-use Rattle.packing.specs.NumbersOfRefusal.{numberOf, countOf, notPacked, outOfRange, notWhole, roomRefusal, packRefusal, unpackRefusal, putFrom, Answer, Packs, Unpacks}
+use Rattle.packing.specs.NumbersOfRefusal.{numberOf, countOf, notPacked, outOfRange, notWhole, roomRefusal, packRefusal, unpackRefusal, Answer, Packs, Unpacks}
 use Rattle.packing.specs.declared.Reply.{Reply}
 use Rattle.packing.specs.declared.Reply.the-variants.{Wrote, FormNotPacked, UnitOutOfRange, NotWholeOctets, NoRoom}
 use Rattle.packing.proofs.Bits.{length-grouped}
@@ -38,10 +38,10 @@ form-high k f p e = range k (sym p ∙ e) .1
 pub all-inside : (k : ℕ) (us : List ℕ) (o : Bool) → o ≡ outOfRange k us → o ≡ false → allBelow (2 ^ k) us ≡ true
 all-inside k us o p e = not-false (allBelow (2 ^ k) us) (sym p ∙ e)
 
-refused : (r : Reply) {no : ℕ} {xs out : List ℕ} {at : ℕ} → numberOf r ≡ no → eqb (numberOf r) 0 ≡ false → countOf r ≡ 0
-    → Answer no xs out at r out
-refused r {no} {xs} {out} {at} e some none =
-    let t : eqb no 0 ≡ false = ap (λ (n : ℕ). eqb n 0) (sym e) ∙ some in
+refused : (r : Reply) {refusal : ℕ} {xs out : List ℕ} {at : ℕ} → numberOf r ≡ refusal → eqb (numberOf r) 0 ≡ false → countOf r ≡ 0
+    → Answer refusal xs out at r out
+refused r {refusal} {xs} {out} {at} e some none =
+    let t : eqb refusal 0 ≡ false = ap (λ (n : ℕ). eqb n 0) (sym e) ∙ some in
     record { number = e; count = simp t none; buffer = simp t }
 
 -- room for n numbers of b bits, or none

@@ -1,8 +1,7 @@
 -- How many units octets need and how many octets units hold: bounds, each other's inverse, and no product too large. Assumes nothing.
 use mathlib.Core.Path.{_≡_, ap, sym, _∙_}
-use mathlib.Core.Bool.{false, not, _||_}
-use Prim.Native.Nat.{ℕ, _+_, _*_, _-_, _/_, _%_, _^_, _≤_, _<_}
-use native.Mathlib.Nat.{mul-add, mul-left-comm, mul-add-div, mul-add-mod-self-left, div-add-mod, mul-le-mul-right, mul-div-le, lt-mul-div-succ, div-le-of-le-mul, mod-lt}
+use Prim.Native.Nat.{ℕ, _+_, _*_, _-_, _/_, _%_, _≤_, _<_}
+use native.Mathlib.Nat.{mul-add, mul-left-comm, mul-add-div, div-add-mod, mul-le-mul-right, mul-div-le, lt-mul-div-succ, div-le-of-le-mul, mod-lt}
 use native.Mathlib.Omega.{arith}
 use Rattle.packing.specs.FormsOfData.{unitsFor, octetsIn}
 
@@ -57,7 +56,7 @@ module _ (k n : ℕ) (pos : 0 < k) where
       let l : 8 * n + (k - 1) < k * (q + 1) = lt-mul-div-succ (8 * n + (k - 1)) pos in
       omega (arith, mul-add k q 1)
 
-  pub units-high : k * unitsFor k n ≤ 8 * n + (k - 1)
+  units-high : k * unitsFor k n ≤ 8 * n + (k - 1)
   unfolding unitsFor
   units-high = mul-div-le (8 * n + (k - 1)) k
 

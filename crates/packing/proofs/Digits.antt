@@ -1,9 +1,9 @@
 -- Digits and the number that they say undo each other; a list of digits cut in two, and joined. Assumes nothing.
 use mathlib.Core.Path.{_≡_, refl, ap, sym, _∙_}
-use mathlib.Core.Bool.{true, _&&_}
+use mathlib.Core.Bool.{true}
 use mathlib.Core.List.{List, [], _∷_, _++_}
-use Prim.Native.Nat.{ℕ, zero, suc, _+_, _*_, _/_, _%_, _^_, _≤_, _<_}
-use native.Mathlib.Nat.{zero-add, one-mul, mul-add, mul-assoc, mul-comm, mul-zero, pow-zero, pow-suc, pow-succ', add-mul-mod-self-left, add-mul-div-left, mod-eq-of-lt, div-eq-of-lt, mod-add-div, mod-lt, div-one, div-div-eq-div-mul, div-lt-iff-lt-mul, one-le-pow}
+use Prim.Native.Nat.{ℕ, zero, suc, _+_, _*_, _/_, _%_, _^_, _<_}
+use native.Mathlib.Nat.{zero-add, one-mul, mul-add, mul-assoc, mul-comm, mul-zero, pow-zero, pow-suc, pow-succ', add-mul-mod-self-left, add-mul-div-left, mod-eq-of-lt, div-eq-of-lt, mod-add-div, mod-lt, div-lt-iff-lt-mul, one-le-pow}
 use native.Mathlib.Omega.{arith}
 use lib.Arith.{digits-lt}
 use lib.Dec.{ltb}

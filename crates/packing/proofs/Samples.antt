@@ -1,6 +1,6 @@
 -- The packing samples of the paper, computed from the definitions. Assumes nothing.
 use mathlib.Core.Path.{_≡_, refl}
-use mathlib.Core.List.{List, [], _∷_}
+use mathlib.Core.List.{[], _∷_}
 use Prim.Native.Nat.{ℕ}
 use Rattle.ground.specs.Digits.{val, digits, allBelow}
 use Rattle.packing.specs.FormsOfData.{bitsOf, grouped, unitsFor, octetsIn, packed, leftOver}

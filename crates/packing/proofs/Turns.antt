@@ -2,9 +2,9 @@
 -- Assumes nothing.
 use mathlib.Core.Path.{_≡_, refl, ap, sym, _∙_, subst}
 use mathlib.Core.Bool.{true}
-use mathlib.Core.List.{List, [], _∷_, _++_, append-nil}
+use mathlib.Core.List.{List, _∷_, _++_, append-nil}
 use Prim.Native.Nat.{ℕ, suc, _+_, _*_, _-_, _/_, _%_, _^_, _≤_, _<_}
-use native.Mathlib.Nat.{mod-lt, mod-eq-of-lt, one-mul, mul-assoc, mul-comm, mul-add, mul-zero, add-mul-mod-self-left, add-mul-div-left, lt-of-lt-of-le}
+use native.Mathlib.Nat.{mod-lt, mul-assoc, mul-comm, mul-add, mul-zero, add-mul-mod-self-left, add-mul-div-left, lt-of-lt-of-le}
 use native.Mathlib.Numerals.{add-one}
 use native.Mathlib.Omega.{arith}
 use lib.Arith.{digits-lt}
@@ -15,12 +15,6 @@ use Rattle.ground.specs.Digits.{val, digits, allBelow}
 use Rattle.packing.specs.FormsOfData.{bitsOf, grouped}
 use Rattle.packing.proofs.Digits.{all-at}
 use Rattle.packing.proofs.Bits.{regrouped}
-
--- a power of 2 as the code has it, by a shift
-pub one-shl : (b : ℕ) → b ≤ 8 → 1 * 2 ^ b % 18446744073709551616 ≡ 2 ^ b
-one-shl b h =
-    let p : 2 ^ b ≤ 2 ^ 8 = pow-mono h in
-    mod-eq-of-lt (omega arith) ∙ one-mul (2 ^ b)
 
 far : (b h r : ℕ) → b ≤ h → 2 ^ h * r ≡ 2 ^ b * (2 ^ (h - b) * r)
 far b h r le =

@@ -1,20 +1,20 @@
 -- What `not_whole` tests: the bits left over are the highest of the last unit. Assumes nothing.
 use mathlib.Core.Path.{_≡_, refl, ap, sym, _∙_}
-use mathlib.Core.Bool.{Bool, true, false, not, _||_}
+use mathlib.Core.Bool.{Bool, true, false}
 use mathlib.Core.List.{List, [], _∷_, _++_, append-nil, append-assoc}
 use Prim.Native.Nat.{ℕ, zero, suc, _+_, _*_, _-_, _/_, _%_, _^_, _≤_, _<_}
 use native.Mathlib.Nat.{mul-suc, le-div-iff-mul-le, div-lt-iff-lt-mul}
 use native.Mathlib.Omega.{arith}
-use lib.Dec.{eqb, ltb, leb}
+use lib.Dec.{ltb, leb}
 use lib.Pow.{pow-pos}
 use lib.ListN.{length, take, drop, getD}
 use lib.Seq.{take-suc, take-length, length-take-le, drop-append-add, drop-nil}
-use borrow.Author.Tests.{lt-ltb, le-leb, lt-leb, leb-true, leb-false, eq-eqb, ne-eqb}
+use borrow.Author.Tests.{lt-ltb, lt-leb, leb-true, leb-false, eq-eqb, ne-eqb}
 use Rattle.ground.specs.Digits.{val, digits, allBelow}
 use Rattle.packing.specs.FormsOfData.{bitsOf, unitsFor, octetsIn, leftOver}
 use Rattle.packing.specs.NumbersOfRefusal.{someOne, notWhole}
 use Rattle.packing.proofs.Digits.{all-head, all-tail, all-at, all-drop, digits-below, val-digits}
-use Rattle.packing.proofs.Bits.{length-bits, all-bits, val-rest}
+use Rattle.packing.proofs.Bits.{length-bits, val-rest}
 use Rattle.packing.proofs.Counts.{spare-split, spare-lt}
 
 positive-twice : (v : ℕ) → ltb 0 v ≡ ltb 0 (0 + 2 * v)

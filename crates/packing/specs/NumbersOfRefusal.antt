@@ -1,6 +1,6 @@
 -- "Numbers of refusal" of packing and unpacking, in their order, and what each call promises. Assumes nothing.
 use mathlib.Core.Path.{_≡_}
-use mathlib.Core.Bool.{Bool, true, false, cond, not, _||_}
+use mathlib.Core.Bool.{Bool, false, cond, not, _||_}
 use mathlib.Core.List.{List, [], _∷_, _++_}
 use Prim.Native.Nat.{ℕ, _+_, _-_, _^_}
 use lib.Dec.{eqb, ltb}
@@ -47,6 +47,7 @@ notWhole k us = not (eqb (length us) (unitsFor k (octetsIn k (length us)))) || s
 abbrev pub noRoom : ℕ → ℕ → ℕ → Bool
 noRoom need len at = ltb len at || ltb (len - at) need
 
+-- 14 where there is no room, else 0
 abbrev pub roomRefusal : ℕ → ℕ → ℕ → ℕ
 roomRefusal need len at = cond (noRoom need len at) 14 0
 

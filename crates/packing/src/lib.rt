@@ -21,6 +21,36 @@ pub enum Reply {
     NoRoom,
 }
 
+// Packs the octets src into units of form bits, which go into out from the place at on.
+pub fn pack(form: u8, src: &[u8], out: &mut [u8], at: usize) -> Reply
+    ensures { λ r. ⌜ Packs form (now (src .entry)) (now (out .entry)) at r (now (out .exit)) ⌝ }
+{
+    if not_packed(form) {
+        return Reply::FormNotPacked;
+    }
+    let k = form as usize;
+    let n = units_for(k, src.len());
+    write(src, 8, k, n, out, at)
+}
+
+// Unpacks units of form bits into octets, which go into out from the place at on.
+pub fn unpack(form: u8, units: &[u8], out: &mut [u8], at: usize) -> Reply
+    ensures { λ r. ⌜ Unpacks form (now (units .entry)) (now (out .entry)) at r (now (out .exit)) ⌝ }
+{
+    if not_packed(form) {
+        return Reply::FormNotPacked;
+    }
+    let k = form as usize;
+    if out_of_range(units, k) {
+        return Reply::UnitOutOfRange;
+    }
+    if not_whole(units, k) {
+        return Reply::NotWholeOctets;
+    }
+    let n = octets_in(k, units.len());
+    write(units, k, 8, n, out, at)
+}
+
 fn wide(x: u8) -> usize
     ensures { λ r. ⌜ r ≡ x ⌝ }
 {
@@ -132,34 +162,4 @@ fn write(src: &[u8], a: usize, b: usize, n: usize, out: &mut [u8], at: usize) ->
     let end = at + n;
     regroup(src, a, b, &mut out[at..end]);
     Reply::Wrote(n)
-}
-
-// Packs the octets src into units of form bits, which go into out from the place at on.
-pub fn pack(form: u8, src: &[u8], out: &mut [u8], at: usize) -> Reply
-    ensures { λ r. ⌜ Packs form (now (src .entry)) (now (out .entry)) at r (now (out .exit)) ⌝ }
-{
-    if not_packed(form) {
-        return Reply::FormNotPacked;
-    }
-    let k = form as usize;
-    let n = units_for(k, src.len());
-    write(src, 8, k, n, out, at)
-}
-
-// Unpacks units of form bits into octets, which go into out from the place at on.
-pub fn unpack(form: u8, units: &[u8], out: &mut [u8], at: usize) -> Reply
-    ensures { λ r. ⌜ Unpacks form (now (units .entry)) (now (out .entry)) at r (now (out .exit)) ⌝ }
-{
-    if not_packed(form) {
-        return Reply::FormNotPacked;
-    }
-    let k = form as usize;
-    if out_of_range(units, k) {
-        return Reply::UnitOutOfRange;
-    }
-    if not_whole(units, k) {
-        return Reply::NotWholeOctets;
-    }
-    let n = octets_in(k, units.len());
-    write(units, k, 8, n, out, at)
 }

@@ -7,7 +7,7 @@ use denote.Ref.{now}
 use lib.ListN.{length}
 use Rattle.packing.specs.FormsOfData.{unitsFor, octetsIn}
 use Rattle.packing.proofs.Counts.{octets-few, rest-le, spare-lt}
-use Rattle.packing.proofs.Turns.{one-shl}
+use Rattle.packing.proofs.Shift.{one-shl}
 use Rattle.packing.proofs.Whole.{counted, wrong-count, no-units, last-unit}
 use Rattle.packing.proofs.not_whole.Statement.{statement}
 use Rattle.packing.proofs.not_whole.Tie as tie

@@ -2,7 +2,7 @@
 use Prim.Native.Nat.{_-_}
 use borrow.Author.Needs.{needs}
 use lib.ListN.{length}
-use Rattle.packing.proofs.Turns.{one-shl}
+use Rattle.packing.proofs.Shift.{one-shl}
 use Rattle.packing.proofs.Scan.{Scan, start, step, found, finish}
 use Rattle.packing.proofs.out_of_range.Statement.{statement}
 use Rattle.packing.proofs.out_of_range.Tie as tie

@@ -3,7 +3,8 @@ use Prim.Native.Nat.{_+_, _*_, _-_}
 use native.Mathlib.Omega.{arith}
 use borrow.Author.Needs.{needs}
 use lib.ListN.{length, length-set}
-use Rattle.packing.proofs.Turns.{Inv, start, emit, read, pad, finish, one-shl, base-pos, byte, fits}
+use Rattle.packing.proofs.Turns.{Inv, start, emit, read, pad, finish, base-pos, byte, fits}
+use Rattle.packing.proofs.Shift.{one-shl}
 use Rattle.packing.proofs.regroup.Statement.{statement}
 use Rattle.packing.proofs.regroup.Tie as tie
 
