@@ -38,9 +38,10 @@ form-high k f p e = range k (sym p ∙ e) .1
 pub all-inside : (k : ℕ) (us : List ℕ) (o : Bool) → o ≡ outOfRange k us → o ≡ false → allBelow (2 ^ k) us ≡ true
 all-inside k us o p e = not-false (allBelow (2 ^ k) us) (sym p ∙ e)
 
+-- a reply that tells a refusal, with the buffer as it was
 refused : (r : Reply) {refusal : ℕ} {xs out : List ℕ} {at : ℕ} → numberOf r ≡ refusal → eqb (numberOf r) 0 ≡ false → countOf r ≡ 0
     → Answer refusal xs out at r out
-refused r {refusal} {xs} {out} {at} e some none =
+refused r {refusal} e some none =
     let t : eqb refusal 0 ≡ false = ap (λ (n : ℕ). eqb n 0) (sym e) ∙ some in
     record { number = e; count = simp t none; buffer = simp t }
 
@@ -80,11 +81,11 @@ module _ (k : ℕ) (s out : List ℕ) (at : ℕ) (f : Bool) (form : f ≡ notPac
   unfolding packRefusal
   pack-form e = refused FormNotPacked (simp (sym form ∙ e)) refl refl
 
-  pub pack-answer : {n : ℕ} {r : Reply} {left : List ℕ} → f ≡ false → n ≡ unitsFor k (length s)
-      → Answer (roomRefusal n (length out) at) (grouped k n (bitsOf 8 s)) out at r left → Packs k s out at r left
+  pub pack-answer : {n : ℕ} {r : Reply} {after : List ℕ} → f ≡ false → n ≡ unitsFor k (length s)
+      → Answer (roomRefusal n (length out) at) (grouped k n (bitsOf 8 s)) out at r after → Packs k s out at r after
   unfolding packRefusal packed
-  pack-answer {n} {r} {left} e en a =
-      simp (sym form ∙ e) (subst (λ (m : ℕ). Answer (roomRefusal m (length out) at) (grouped k m (bitsOf 8 s)) out at r left) en a)
+  pack-answer {n} {r} {after} e en a =
+      simp (sym form ∙ e) (subst (λ (m : ℕ). Answer (roomRefusal m (length out) at) (grouped k m (bitsOf 8 s)) out at r after) en a)
 
   pub unpack-form : f ≡ true → Unpacks k s out at FormNotPacked out
   unfolding unpackRefusal
@@ -100,9 +101,9 @@ module _ (k : ℕ) (s out : List ℕ) (at : ℕ) (f : Bool) (form : f ≡ notPac
       unfolding unpackRefusal
       unpack-whole e = refused NotWholeOctets (simp (sym form ∙ packs, sym range ∙ inside, sym whole ∙ e)) refl refl
 
-      pub unpack-answer : {n : ℕ} {r : Reply} {left : List ℕ} → w ≡ false → n ≡ octetsIn k (length s)
-          → Answer (roomRefusal n (length out) at) (grouped 8 n (bitsOf k s)) out at r left → Unpacks k s out at r left
+      pub unpack-answer : {n : ℕ} {r : Reply} {after : List ℕ} → w ≡ false → n ≡ octetsIn k (length s)
+          → Answer (roomRefusal n (length out) at) (grouped 8 n (bitsOf k s)) out at r after → Unpacks k s out at r after
       unfolding unpackRefusal unpacked
-      unpack-answer {n} {r} {left} e en a =
+      unpack-answer {n} {r} {after} e en a =
           simp (sym form ∙ packs, sym range ∙ inside, sym whole ∙ e)
-          (subst (λ (m : ℕ). Answer (roomRefusal m (length out) at) (grouped 8 m (bitsOf k s)) out at r left) en a)
+          (subst (λ (m : ℕ). Answer (roomRefusal m (length out) at) (grouped 8 m (bitsOf k s)) out at r after) en a)

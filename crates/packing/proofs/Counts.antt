@@ -1,6 +1,6 @@
 -- How many units octets need and how many octets units hold: bounds, each other's inverse, and no product too large. Assumes nothing.
 use mathlib.Core.Path.{_≡_, ap, sym, _∙_}
-use Prim.Native.Nat.{ℕ, _+_, _*_, _-_, _/_, _%_, _≤_, _<_}
+use Prim.Native.Nat.{ℕ, _+_, _*_, _-_, _/_, _%_, _^_, _≤_, _<_}
 use native.Mathlib.Nat.{mul-add, mul-left-comm, mul-add-div, div-add-mod, mul-le-mul-right, mul-div-le, lt-mul-div-succ, div-le-of-le-mul, mod-lt}
 use native.Mathlib.Omega.{arith}
 use Rattle.packing.specs.FormsOfData.{unitsFor, octetsIn}
@@ -39,15 +39,6 @@ module _ (k n : ℕ) (pos : 0 < k) where
       let f : 8 * n + (k - 1) ≡ k * (8 * (n / k)) + (8 * (n % k) + (k - 1)) = omega arith in
       sym (ap (λ (m : ℕ). m / k) f ∙ mul-add-div pos (8 * (n / k)) (8 * (n % k) + (k - 1)))
 
-  pub rest-lt : n % k < k
-  rest-lt = mod-lt n pos
-
-  pub rest-units : (8 * (n % k) + (k - 1)) / k ≤ 9
-  rest-units =
-      let m : n % k < k = rest-lt in
-      let l : 8 * (n % k) + (k - 1) ≤ k * 9 = omega arith in
-      div-le-of-le-mul k l
-
   -- k U lies between 8 N and 8 N + k - 1
   pub units-low : 8 * n ≤ k * unitsFor k n
   unfolding unitsFor
@@ -68,6 +59,13 @@ pub sixth : (k n : ℕ) → 6 ≤ k → 6 * (n / k) ≤ n
 sixth k n h =
     let p : 6 * (n / k) ≤ k * (n / k) = mul-le-mul-right (n / k) h in
     omega (arith, mul-div-le n k)
+
+-- the units of n octets by k octets at a time, and of the rest, are no number too large
+pub units-fit : (k n x : ℕ) → 6 ≤ k → n < 2 ^ 63 → x ≤ 8 * (n % k) + (k - 1) → 8 * (n / k) + x / k < 18446744073709551616
+units-fit k n x h f l =
+    let m : n % k < k = mod-lt n (omega arith) in
+    let q : x / k ≤ 9 = div-le-of-le-mul k (omega arith) in
+    omega (arith, sixth k n h)
 
 -- where as many units came as their octets need, fewer bits than a unit has are left over
 pub spare-lt : (k u : ℕ) → 0 < k → u ≡ unitsFor k (octetsIn k u) → k * (u % 8) % 8 < k

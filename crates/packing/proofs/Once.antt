@@ -28,8 +28,8 @@ told NotWholeOctets = refl
 told NoRoom = refl
 
 -- `Packs` and `Unpacks` are such answers
-pub one-answer : {refusal : ℕ} {xs out : List ℕ} {at : ℕ} {r r′ : Reply} {left left′ : List ℕ}
-    → Answer refusal xs out at r left → Answer refusal xs out at r′ left′ → (r ≡ r′) × (left ≡ left′)
+pub one-answer : {refusal : ℕ} {xs out : List ℕ} {at : ℕ} {r r′ : Reply} {after after′ : List ℕ}
+    → Answer refusal xs out at r after → Answer refusal xs out at r′ after′ → (r ≡ r′) × (after ≡ after′)
 one-answer {refusal} {xs} {out} {at} {r} {r′} a b =
     let n : ℕ = cond (eqb refusal 0) (length xs) 0 in (
       one-reply (replyOf refusal n) (told r ∙ ap₂ replyOf (a .number) (a .count)) (told r′ ∙ ap₂ replyOf (b .number) (b .count)),

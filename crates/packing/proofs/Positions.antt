@@ -43,6 +43,14 @@ pub packed-below : (k : ℕ) (s : List ℕ) → allBelow (2 ^ k) (packed k s) �
 unfolding packed
 packed-below k s = grouped-below k (unitsFor k (length s)) (bitsOf 8 s) (all-bits 8 s)
 
+pub length-unpacked : (k : ℕ) (us : List ℕ) → length (unpacked k us) ≡ octetsIn k (length us)
+unfolding unpacked
+length-unpacked k us = length-grouped 8 (octetsIn k (length us)) (bitsOf k us)
+
+pub unpacked-below : (k : ℕ) (us : List ℕ) → allBelow 256 (unpacked k us) ≡ true
+unfolding unpacked
+unpacked-below k us = grouped-below 8 (octetsIn k (length us)) (bitsOf k us) (all-bits k us)
+
 -- the octets s say a number in base 256, and the units that they are packed into are its digits in base 2 ^ k
 pub packed-digits : (k : ℕ) (s : List ℕ) → allBelow 256 s ≡ true
     → packed k s ≡ digits (2 ^ k) (unitsFor k (length s)) (val 256 s)

@@ -14,11 +14,11 @@ use Rattle.ground.specs.Digits.{val, digits, allBelow}
 use Rattle.packing.specs.FormsOfData.{bitsOf, unitsFor, octetsIn, packed, unpacked, leftOver}
 use Rattle.packing.specs.NumbersOfRefusal.{notPacked, outOfRange, someOne, notWhole, roomRefusal, unpackRefusal}
 use Rattle.packing.proofs.Digits.{all-drop, digits-val, val-digits}
-use Rattle.packing.proofs.Bits.{length-bits, all-bits, val-bits, val-rest, length-grouped, grouped-below}
+use Rattle.packing.proofs.Bits.{length-bits, all-bits, val-bits, val-rest}
 use Rattle.packing.proofs.Counts.{octets-units}
 use Rattle.packing.proofs.Answers.{form-low, form-high}
 use Rattle.packing.proofs.Whole.{some-one}
-use Rattle.packing.proofs.Positions.{pow-pow, length-packed, packed-below, packed-digits, unpacked-digits, val-packed, bits-kept}
+use Rattle.packing.proofs.Positions.{pow-pow, length-packed, packed-below, length-unpacked, unpacked-below, packed-digits, unpacked-digits, val-packed, bits-kept}
 
 zeros : (n : ℕ) → someOne (replicate n 0) ≡ false
 unfolding someOne
@@ -96,21 +96,13 @@ module _ (k : ℕ) (us : List ℕ) (len at : ℕ) (accepted : unpackRefusal k us
       let less : val (2 ^ k) us < 1 * 2 ^ (8 * n) = div-lt-iff-lt-mul (pow-pos (8 * n)) .0 small in
       omega (arith, pow-pow 8 n)
 
-  length-unpacked : length (unpacked k us) ≡ octetsIn k (length us)
-  unfolding unpacked
-  length-unpacked = length-grouped 8 (octetsIn k (length us)) (bitsOf k us)
-
-  unpacked-below : allBelow 256 (unpacked k us) ≡ true
-  unfolding unpacked
-  unpacked-below = grouped-below 8 (octetsIn k (length us)) (bitsOf k us) (all-bits k us)
-
   back : unitsFor k (length (unpacked k us)) ≡ length us
-  back = ap (unitsFor k) length-unpacked ∙ sym count
+  back = ap (unitsFor k) (length-unpacked k us) ∙ sym count
 
   -- packing what was unpacked without refusal gives the units back
   pub pack-unpacked : packed k (unpacked k us) ≡ us
   pack-unpacked =
-      packed-digits k (unpacked k us) unpacked-below
+      packed-digits k (unpacked k us) (unpacked-below k us)
       ∙ ap (λ (n : ℕ). digits (2 ^ k) n (val 256 (unpacked k us))) back
       ∙ ap (λ (l : List ℕ). digits (2 ^ k) (length us) (val 256 l)) (unpacked-digits k us below)
       ∙ ap (digits (2 ^ k) (length us)) (val-digits 256 (omega arith) (octetsIn k (length us)) (val (2 ^ k) us) octets-say)
@@ -121,6 +113,6 @@ module _ (k : ℕ) (us : List ℕ) (len at : ℕ) (accepted : unpackRefusal k us
   bits-kept-back =
       let p : 0 < k = omega (arith, form-low k false (sym (tests .0)) refl) in
       ap (bitsOf k) (sym pack-unpacked)
-      ∙ bits-kept k (unpacked k us) p unpacked-below
+      ∙ bits-kept k (unpacked k us) p (unpacked-below k us)
       ∙ ap (λ (u : ℕ). bitsOf 8 (unpacked k us) ++ replicate (k * u - 8 * length (unpacked k us)) 0) back
-      ∙ ap (λ (n : ℕ). bitsOf 8 (unpacked k us) ++ replicate (k * length us - 8 * n) 0) length-unpacked
+      ∙ ap (λ (n : ℕ). bitsOf 8 (unpacked k us) ++ replicate (k * length us - 8 * n) 0) (length-unpacked k us)

@@ -69,12 +69,12 @@ unpackRefusal k us len at =
 abbrev pub putFrom : ℕ → List ℕ → List ℕ → List ℕ
 putFrom at xs out = take at out ++ (xs ++ drop (at + length xs) out)
 
--- What a call promises that has a number of refusal, 0 for none, and xs to write into the buffer out from the place `at`:
--- the reply r and the buffer as it is left. A refusal writes nothing.
-pub record Answer (refusal : ℕ) (xs out : List ℕ) (at : ℕ) (r : Reply) (left : List ℕ) : Type 0 where
+-- What a call promises that has the given number of refusal, 0 for none, and the units or octets xs to write into the buffer out
+-- from the place `at` on: its reply r, and the buffer after it. A refusal writes nothing.
+pub record Answer (refusal : ℕ) (xs out : List ℕ) (at : ℕ) (r : Reply) (after : List ℕ) : Type 0 where
   pub number : numberOf r ≡ refusal
   pub count : countOf r ≡ cond (eqb refusal 0) (length xs) 0
-  pub buffer : left ≡ cond (eqb refusal 0) (putFrom at xs out) out
+  pub buffer : after ≡ cond (eqb refusal 0) (putFrom at xs out) out
 
 -- the promise of packing the octets s in form k
 abbrev pub Packs : ℕ → List ℕ → List ℕ → ℕ → Reply → List ℕ → Type 0

@@ -27,7 +27,7 @@ wide-requires c κs = search needs
 
 returns : tie.Need-returns Inv-loop μ-loop
 returns c =
-    found (c .before .before .before .before .loop .inv) _ (c .before .wide .ensures) (c .before .before .before .loop-test .taken) (c .if1 .taken)
+    found (c .before .before .before .before .loop .inv) _ (c .before .wide .ensures) (search needs) (search needs)
 
 add-i : tie.Need-add-i Inv-loop μ-loop
 add-i c = search needs
@@ -37,7 +37,7 @@ loop-less c = search needs
 
 loop-again : tie.Need-loop-again Inv-loop μ-loop
 loop-again c =
-    step (c .before .before .before .before .loop .inv) _ (c .before .wide .ensures) (c .before .before .before .loop-test .taken) (c .if1 .left)
+    step (c .before .before .before .before .loop .inv) _ (c .before .wide .ensures) (search needs) (search needs)
 
 returns-2 : tie.Need-returns-2 Inv-loop μ-loop
 returns-2 c = finish (c .before .loop .inv) (c .loop-test .left)

@@ -1,7 +1,8 @@
 -- `packing::units_for` meets its contract. Assumes nothing.
+use native.Mathlib.Nat.{mod-lt}
 use native.Mathlib.Omega.{arith}
 use borrow.Author.Needs.{needs}
-use Rattle.packing.proofs.Counts.{units-split, sixth, rest-lt, rest-units}
+use Rattle.packing.proofs.Counts.{units-split, sixth, units-fit}
 use Rattle.packing.proofs.units_for.Statement.{statement}
 use Rattle.packing.proofs.units_for.Tie as tie
 
@@ -15,20 +16,19 @@ rem-result : tie.Need-rem-result
 rem-result c = search needs
 
 mul-result-2 : tie.Need-mul-result-2
-mul-result-2 c = omega (arith, rest-lt (c .args .k) (c .args .n) (omega arith))
+mul-result-2 c = omega (arith, mod-lt (c .args .n) {m = c .args .k} (omega arith))
 
 sub-result : tie.Need-sub-result
 sub-result c = search needs
 
 add-result : tie.Need-add-result
-add-result c = omega (arith, rest-lt (c .args .k) (c .args .n) (omega arith))
+add-result c = omega (arith, mod-lt (c .args .n) {m = c .args .k} (omega arith))
 
 div-result-2 : tie.Need-div-result-2
 div-result-2 c = search needs
 
 add-result-2 : tie.Need-add-result-2
-add-result-2 c =
-    omega (arith, sixth (c .args .k) (c .args .n) (c .pre .0 .0), rest-units (c .args .k) (c .args .n) (omega arith))
+add-result-2 c = search (needs, units-fit)
 
 returns : tie.Need-returns
 returns c = units-split (c .args .k) (c .args .n) (omega arith)
