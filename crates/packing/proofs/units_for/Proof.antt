@@ -28,7 +28,7 @@ div-result-2 : tie.Need-div-result-2
 div-result-2 c = search needs
 
 add-result-2 : tie.Need-add-result-2
-add-result-2 c = search (needs, units-fit)
+add-result-2 c = record { fits = units-fit (c .args .k) (c .args .n) _ (omega arith) (omega arith) (omega arith) }
 
 returns : tie.Need-returns
 returns c = units-split (c .args .k) (c .args .n) (omega arith)
