@@ -1,0 +1,12 @@
+pub mod Digits
+pub mod Bits
+pub mod Counts
+pub mod Shift
+pub mod Turns
+pub mod Scan
+pub mod Whole
+pub mod Answers
+pub mod Positions
+pub mod Trips
+pub mod Once
+pub mod Samples

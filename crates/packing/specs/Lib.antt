@@ -1,0 +1,2 @@
+pub mod FormsOfData
+pub mod NumbersOfRefusal
