@@ -1,8 +1,9 @@
 -- The table of kinds: its rule at every entry, and each code read as what it is, whatever B8 is. Assumes nothing.
-use mathlib.Core.Path.{_≡_, refl}
+use mathlib.Core.Path.{_≡_, refl, sym, _∙_}
+use mathlib.Core.Bool.{cond}
 use mathlib.Core.List.{List}
 use Prim.Native.Nat.{ℕ, _-_, _/_, _%_, _<_, _≤_}
-use lib.Dec.{T, eqb, eqb→eq}
+use lib.Dec.{T, eqb, eqb→eq, leb}
 use lib.ListN.{length, getD}
 use borrow.Author.Tests.{ne-eqb, le-leb, lt-leb}
 use Rattle.ground.specs.Digits.{val}
@@ -54,7 +55,13 @@ module _ (b n : ℕ) (e : n ≡ kindNumber b) where
 
 pub ruleset kinds = (kind-dl, kind-dh, kind-sd, kind-sgvi, kind-low, kind-high, kind-sgp)
 
--- 16 DL, 16 DH and 32 Sd codes, 10 others named, one each, and 54 unassigned, of 128
+-- 16 DL, 16 DH and 32 Sd codes, and 54 unassigned, of 128
 pub kinds-counted : (howMany 1 128 ≡ 16) × (howMany 2 128 ≡ 16) × (howMany 3 128 ≡ 32) × (howMany 0 128 ≡ 54)
 unfolding howMany kindNumber
 kinds-counted = (refl, refl, refl, refl)
+
+-- and 10 others, numbered 4 to 13, one of each
+pub others-counted : (k : ℕ) → k < 14 → 4 ≤ k → howMany k 128 ≡ 1
+unfolding howMany kindNumber
+others-counted k h l =
+    sym (rw (le-leb 4 k l)) ∙ each-eq (λ k. cond (leb 4 k) (howMany k 128) 1) (λ k. 1) 14 tt k h

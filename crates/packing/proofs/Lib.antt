@@ -8,5 +8,5 @@ pub mod Whole
 pub mod Answers
 pub mod Positions
 pub mod Trips
-pub mod Once
+pub mod OneReply
 pub mod Samples

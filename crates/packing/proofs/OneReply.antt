@@ -5,8 +5,11 @@ use mathlib.Core.List.{List}
 use Prim.Native.Nat.{ℕ}
 use lib.Dec.{eqb}
 use lib.ListN.{length}
+use denote.Ref.{now}
 use Rattle.ground.proofs.OneReply.{one-reply}
 use Rattle.packing.specs.NumbersOfRefusal.{numberOf, countOf, putFrom, Answer}
+use Rattle.packing.proofs.pack.Reads as pack
+use Rattle.packing.proofs.unpack.Reads as unpack
 use Rattle.packing.specs.declared.Reply.{Reply}
 use Rattle.packing.specs.declared.Reply.the-variants.{Wrote, FormNotPacked, UnitOutOfRange, NotWholeOctets, NoRoom}
 
@@ -35,3 +38,12 @@ one-answer {refusal} {xs} {out} {at} {r} {r′} a b =
       one-reply (replyOf refusal n) (told r ∙ ap₂ replyOf (a .number) (a .count)) (told r′ ∙ ap₂ replyOf (b .number) (b .count)),
       one-reply (cond (eqb refusal 0) (putFrom at xs out) out) (a .buffer) (b .buffer),
     )
+
+-- read off the promises as the source states them; the lent buffer is the third argument
+pub pack-one : (κs : _) (a : _) (r s : _) (x y : _) → pack.Post κs a r x → pack.Post κs a s y
+    → (r ≡ s) × (now (x .1 .1 .0) ≡ now (y .1 .1 .0))
+pack-one κs a r s x y p q = one-answer p q
+
+pub unpack-one : (κs : _) (a : _) (r s : _) (x y : _) → unpack.Post κs a r x → unpack.Post κs a s y
+    → (r ≡ s) × (now (x .1 .1 .0) ≡ now (y .1 .1 .0))
+unpack-one κs a r s x y p q = one-answer p q

@@ -1,0 +1,1 @@
+// No code: what is claimed of the crates below, in statements that a reader can quote.
