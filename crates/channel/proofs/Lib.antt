@@ -7,3 +7,4 @@ pub mod HighestBit
 pub mod ReadBack
 pub mod RoundTrip
 pub mod OneReply
+pub mod TwoOfThree

@@ -1,12 +1,13 @@
 -- Each byte as it is sent is read as what it is, whatever B8 came as. Assumes nothing.
 use mathlib.Core.Path.{_≡_, refl, ap, sym, _∙_}
 use mathlib.Core.Bool.{Bool, true, false, cond}
-use Prim.Native.Nat.{ℕ, zero, suc, _+_, _*_, _/_, _%_, _<_, _≤_}
+use Prim.Native.Nat.{ℕ, zero, suc, _*_, _/_, _%_, _<_, _≤_}
+use native.Mathlib.Nat.{div-div-eq-div-mul}
 use native.Mathlib.Omega.{arith}
-use lib.Dec.{T, eqb, eqb→eq, leb, ltb, ltb→lt}
+use lib.Dec.{T, eqb, eqb→eq, leb}
 use borrow.Author.Tests.{le-leb}
 use Rattle.ground.specs.Digits.{val}
-use Rattle.ground.proofs.Each.{upTo, each, each-eq}
+use Rattle.ground.proofs.Each.{each-eq}
 use Rattle.ground.proofs.EachBool.{every5, each5}
 use Rattle.channel.specs.Bytes.{laid, B, bitOf, signalling, sgvi, sgp, sdidle, sdByte, dlByte, dhByte}
 use Rattle.channel.specs.Kinds.{kindNumber, nibbleIn, leadsIn, kindFrom, kindOf}
@@ -40,10 +41,6 @@ dl-nibble : (v : ℕ) → v < 256 → nibbleIn (dlByte v) ≡ v % 16
 unfolding nibbleIn dlByte laid val
 dl-nibble v h = each-eq (λ v. nibbleIn (dlByte v)) (λ v. v % 16) 256 tt v h
 
-pub dl-byte : (v : ℕ) → v < 256 → dlByte v < 256
-unfolding dlByte laid val
-dl-byte v h = ltb→lt (dlByte v) 256 (each (λ v. ltb (dlByte v) 256) 256 tt v h)
-
 pub dl-read : (v : ℕ) → v < 256 → kindOf (dlByte v) ≡ Dl (v % 16)
 unfolding kindOf kindFrom
 dl-read v h = rw (dl-number v h) (ap Dl (dl-nibble v h))
@@ -55,10 +52,6 @@ dh-number v h = each-eq (λ v. kindNumber (dhByte v)) (λ v. 2) 256 tt v h
 dh-nibble : (v : ℕ) → v < 256 → nibbleIn (dhByte v) ≡ v / 16
 unfolding nibbleIn dhByte laid val
 dh-nibble v h = each-eq (λ v. nibbleIn (dhByte v)) (λ v. v / 16) 256 tt v h
-
-pub dh-byte : (v : ℕ) → v < 256 → dhByte v < 256
-unfolding dhByte laid val
-dh-byte v h = ltb→lt (dhByte v) 256 (each (λ v. ltb (dhByte v) 256) 256 tt v h)
 
 pub dh-read : (v : ℕ) → v < 256 → kindOf (dhByte v) ≡ Dh (v / 16)
 unfolding kindOf kindFrom
@@ -108,28 +101,50 @@ pub sdidle-is : sdByte (lead false true false false) false ≡ sdidle
 unfolding sdByte laid val
 sdidle-is = refl
 
--- a byte and the same with B8 on have one number, and the same bits before B8
-abbrev lit : ℕ → ℕ
-lit b = b / 2 * 2 + 1
-
-number-lit : (b : ℕ) → b < 256 → kindNumber b ≡ kindNumber (lit b)
-unfolding kindNumber
-number-lit b h = each-eq kindNumber (λ b. kindNumber (lit b)) 256 tt b h
-
-bit-lit : (k b : ℕ) → k < 8 → b < 256 → B k b ≡ B k (lit b)
-bit-lit k b h l =
-    each-eq (B k) (λ b. B k (lit b)) 256 (each (λ k. upTo (λ b. eqb (B k b) (B k (lit b))) 256) 8 tt k h) b l
-
-kind-lit : (b : ℕ) → b < 256 → kindOf b ≡ kindOf (lit b)
-unfolding kindOf kindFrom nibbleIn leadsIn
-kind-lit b h =
-    let f1 : B 1 b ≡ B 1 (lit b) = bit-lit 1 b (omega arith) h in
-    let f2 : B 2 b ≡ B 2 (lit b) = bit-lit 2 b (omega arith) h in
-    let f3 : B 3 b ≡ B 3 (lit b) = bit-lit 3 b (omega arith) h in
-    let f4 : B 4 b ≡ B 4 (lit b) = bit-lit 4 b (omega arith) h in
-    let f5 : B 5 b ≡ B 5 (lit b) = bit-lit 5 b (omega arith) h in
-    rw (number-lit b h, f1, f2, f3, f4, f5)
-
 -- B8 is ignored on receipt: two bytes that differ in B8 alone are of one kind
-pub b8-ignored : (a b : ℕ) → a < 256 → b < 256 → a / 2 ≡ b / 2 → kindOf a ≡ kindOf b
-b8-ignored a b h l e = kind-lit a h ∙ ap (λ n. kindOf (n * 2 + 1)) e ∙ sym (kind-lit b l)
+bit-of-half : (a i : ℕ) → a / (2 * i) ≡ a / 2 / i
+bit-of-half a i = sym (div-div-eq-div-mul a 2 i)
+
+pub b8-ignored : (a b : ℕ) → a / 2 ≡ b / 2 → kindOf a ≡ kindOf b
+unfolding kindOf kindFrom kindNumber nibbleIn leadsIn
+b8-ignored a b e =
+    rw (
+      bit-of-half a 2,
+      bit-of-half a 4,
+      bit-of-half a 8,
+      bit-of-half a 16,
+      bit-of-half a 32,
+      bit-of-half a 64,
+      e,
+      ← bit-of-half b 2,
+      ← bit-of-half b 4,
+      ← bit-of-half b 8,
+      ← bit-of-half b 16,
+      ← bit-of-half b 32,
+      ← bit-of-half b 64,
+    )
+
+-- whatever nibble they carry, DL and DH are told by the three bits after it
+pub marks-dl : (b : ℕ) → b / 2 % 8 ≡ 2 → kindOf b ≡ Dl (nibbleIn b)
+unfolding kindOf kindFrom kindNumber
+marks-dl b e =
+    let f : b / 8 % 2 ≡ 0 = omega arith in
+    let g : b / 4 % 2 ≡ 1 = omega arith in
+    let h : b / 2 % 2 ≡ 0 = omega arith in
+    rw (f, g, h)
+
+pub marks-dh : (b : ℕ) → b / 2 % 8 ≡ 6 → kindOf b ≡ Dh (nibbleIn b)
+unfolding kindOf kindFrom kindNumber
+marks-dh b e =
+    let f : b / 8 % 2 ≡ 1 = omega arith in
+    let g : b / 4 % 2 ≡ 1 = omega arith in
+    let h : b / 2 % 2 ≡ 0 = omega arith in
+    rw (f, g, h)
+
+pub dl-marked : (v : ℕ) → v < 256 → dlByte v / 2 % 8 ≡ 2
+unfolding dlByte laid val
+dl-marked v h = each-eq (λ v. dlByte v / 2 % 8) (λ v. 2) 256 tt v h
+
+pub dh-marked : (v : ℕ) → v < 256 → dhByte v / 2 % 8 ≡ 6
+unfolding dhByte laid val
+dh-marked v h = each-eq (λ v. dhByte v / 2 % 8) (λ v. 6) 256 tt v h

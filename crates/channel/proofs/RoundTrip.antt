@@ -15,7 +15,7 @@ use Rattle.channel.specs.declared.unit.Form.{Form}
 use Rattle.channel.specs.declared.unit.Form.the-variants.{Six, SevenV1, SevenV2, Eight}
 use Rattle.channel.specs.declared.unit.Decoded.the-variants.{Unit}
 use Rattle.channel.specs.declared.kind.Kind.the-variants.{Dl, Dh}
-use Rattle.channel.proofs.ReadBack.{dl-byte, dh-byte, dl-read, dh-read, b8-ignored}
+use Rattle.channel.proofs.ReadBack.{dl-read, dh-read, b8-ignored}
 
 -- the byte is data and its unit is u
 abbrev gives : Form → ℕ → ℕ → Bool
@@ -48,14 +48,14 @@ round-trip Eight u b h e =
     ap (decoded Eight) e ∙ is-unit Eight u (unitByte Eight u) (each (λ u. gives Eight u (unitByte Eight u)) 256 tt u h)
 
 -- form 0: the bytes of a word, whatever their B8, are a DL and a DH, and their nibbles give the word back
-pub round-trip-word : (w v low high : ℕ) → v < 2 ^ w → v < 256 → low < 256 → high < 256
+pub round-trip-word : (w v low high : ℕ) → v < 2 ^ w → v < 256
     → low / 2 ≡ dlByte v / 2 → high / 2 ≡ dhByte v / 2
     → (kindOf low ≡ Dl (v % 16)) × (kindOf high ≡ Dh (v / 16)) × (wordOf w (v % 16) (v / 16) ≡ v)
 unfolding wordOf
-round-trip-word w v low high f h l k p q =
+round-trip-word w v low high f h p q =
     let e : v % 16 % 16 + v / 16 % 16 * 16 ≡ v = omega arith in (
-      b8-ignored low (dlByte v) l (dl-byte v h) p ∙ dl-read v h,
-      b8-ignored high (dhByte v) k (dh-byte v h) q ∙ dh-read v h,
+      b8-ignored low (dlByte v) p ∙ dl-read v h,
+      b8-ignored high (dhByte v) q ∙ dh-read v h,
       ap (λ n. n % 2 ^ w) e ∙ mod-eq-of-lt f,
     )
 

@@ -2,8 +2,8 @@
 use mathlib.Core.Bool.{cond}
 use mathlib.Core.List.{List, [], _∷_}
 use Prim.Native.Nat.{ℕ, zero, suc, _+_, _/_, _%_}
-use lib.Dec.{leb}
-use Rattle.ground.specs.Digits.{val}
+use lib.Dec.{eqb, leb}
+use Rattle.ground.specs.Digits.{val, bit}
 
 -- of three bits, the one that at least two of them are
 abbrev pub majority : ℕ → ℕ → ℕ → ℕ
@@ -16,3 +16,7 @@ majorities (suc n) a b c = majority (a % 2) (b % 2) (c % 2) ∷ majorities n (a 
 
 unfoldable pub voted : ℕ → ℕ → ℕ → ℕ
 voted a b c = val 2 (majorities 8 a b c)
+
+-- 1 where a copy has bit i as it was sent, else 0
+abbrev pub asSent : ℕ → ℕ → ℕ → ℕ
+asSent i copy sent = cond (eqb (bit i copy) (bit i sent)) 1 0

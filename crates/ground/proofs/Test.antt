@@ -1,6 +1,6 @@
 -- A test that passes, taken apart and put together. Assumes nothing.
 use mathlib.Core.Path.{_≡_, refl}
-use mathlib.Core.Bool.{Bool, true, false, _&&_, Bool·beq}
+use mathlib.Core.Bool.{Bool, true, false, _&&_, cond, Bool·beq}
 use lib.Dec.{T}
 
 pub and-left : (a b : Bool) → T (a && b) → T a
@@ -28,3 +28,8 @@ same-flag true true t = refl
 same-flag true false t = absurd t
 same-flag false true t = absurd t
 same-flag false false t = refl
+
+-- what holds of both holds of the one that a test picks
+pub by-test : {A : Type 0} (P : A → Type 0) (b : Bool) {x y : A} → P x → P y → P (cond b x y)
+by-test P true p q = p
+by-test P false p q = q
