@@ -1,7 +1,7 @@
 -- Each way through the checks of the entries, 8, 9 and 10, and through their loops. Assumes nothing.
 use Prim.Native.Nat.{ℕ, _+_, _<_, _≤_}
-use mathlib.Core.Path.{_≡_, _∙_}
-use mathlib.Core.Bool.{Bool, true, false, not, _&&_}
+use mathlib.Core.Path.{_≡_, sym, _∙_}
+use mathlib.Core.Bool.{Bool, true, false, not, _&&_, _||_, or-false, or-assoc}
 use mathlib.Core.List.{List, [], _∷_, _++_}
 use native.Mathlib.Omega.{arith}
 use native.Mathlib.Numerals.{add-one}
@@ -27,23 +27,19 @@ module _ (es : List Entry) (i j : ℕ) (ge : i ≤ j) (le : i ≤ mostEntries) (
       let l : length (take i es) ≤ j = omega (arith, length-take-le i es (omega arith)) in
       drop-of-length-le (take i es) l
 
--- 10: the search among the entries before i, at j
-module _ (es : List Entry) (e : Entry) (i j : ℕ) (le : i ≤ mostEntries) (len : length es ≡ mostEntries)
-    (inv : seenIn (take i es) e ≡ seenIn (drop j (take i es)) e) where
-  module _ (lt : j < i) (b : Bool) (s : b ≡ sameParams (getD es j noEntry) e) where
-    pub seen-here : b ≡ true → true ≡ seenIn (take i es) e
-    unfolding seenIn
-    seen-here t = let k : sameParams (getD es j noEntry) e ≡ true = cc in rw (inv, at-drop es i j lt le len, k)
+-- 10: the search among the first j entries, with one more
+seen-last : (xs : List Entry) (x e : Entry) → seenIn (xs ++ (x ∷ [])) e ≡ (seenIn xs e || sameParams x e)
+unfolding seenIn
+seen-last [] x e = or-false (sameParams x e)
+seen-last (y ∷ xs) x e = rw (seen-last xs x e) (sym (or-assoc (sameParams y e) (seenIn xs e) (sameParams x e)))
 
-    pub seen-next : b ≡ false → seenIn (take i es) e ≡ seenIn (drop (j + 1) (take i es)) e
-    unfolding seenIn
-    seen-next t = let k : sameParams (getD es j noEntry) e ≡ false = cc in inv ∙ rw (at-drop es i j lt le len, k)
+pub seen-next : (es : List Entry) (e : Entry) (i j : ℕ) (f b : Bool) → j < i → i ≤ mostEntries → length es ≡ mostEntries → f ≡ seenIn (take j es) e → b ≡ sameParams (getD es j noEntry) e → (f || b) ≡ seenIn (take (j + 1) es) e
+seen-next es e i j f b lt le len ef eb =
+    let l : j < length es = omega arith in
+    rw (ef, eb, add-one, take-suc es j noEntry) (sym (seen-last (take j es) (getD es j noEntry) e))
 
-  pub seen-never : i ≤ j → false ≡ seenIn (take i es) e
-  unfolding seenIn
-  seen-never ge = rw (inv, at-end es i j ge le len)
-
-pub ruleset seens = (seen-here, seen-next, seen-never)
+pub seen-end : (es : List Entry) (e : Entry) (i j : ℕ) (f : Bool) → i ≤ j → j ≤ i → f ≡ seenIn (take j es) e → f ≡ seenIn (take i es) e
+seen-end es e i j f ge le h = let k : j ≡ i = omega arith in h ∙ rw k
 
 -- 8, 9 and 10 of one entry
 module _ (mask : ℕ) (earlier : List Entry) (e : Entry) (f w : Bool) (ef : f ≡ isForm (e .form)) (ew : w ≡ isWidth (e .form) (e .w)) where

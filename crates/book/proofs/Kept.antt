@@ -16,7 +16,7 @@ use Rattle.book.specs.declared.Book.{Book}
 use Rattle.book.specs.Book.{mostEntries, noEntry, paramsOf, sameParams}
 use Rattle.book.specs.Refusals.{leastLimit, isMask, wrongCount, isForm, isWidth, isBarred, seenIn, entryNo, eachNo, valuesNo, entriesNo}
 use Rattle.book.specs.Kept.{allNone, isPadded, bookOk}
-use Rattle.book.proofs.NothingWrong.{or-false, cond-zero, else-zero, valued}
+use Rattle.book.proofs.NothingWrong.{neither, cond-zero, else-zero, valued}
 use Rattle.book.proofs.Params.{equal-same}
 
 -- one of its entries, with the book's mask
@@ -50,8 +50,8 @@ each-at mask earlier (e ∷ es) h (suc i) l =
 not-seen : (earlier : List Entry) (e : Entry) → seenIn earlier e ≡ false → (i : ℕ) → i < length earlier → sameParams (getD earlier i noEntry) e ≡ false
 unfolding seenIn
 not-seen [] e h i l = absurd (not-suc-le-zero l)
-not-seen (x ∷ xs) e h zero l = or-false (sameParams x e) _ h .0
-not-seen (x ∷ xs) e h (suc i) l = not-seen xs e (or-false (sameParams x e) _ h .1) i (le-of-suc-le-suc l)
+not-seen (x ∷ xs) e h zero l = neither (sameParams x e) _ h .0
+not-seen (x ∷ xs) e h (suc i) l = not-seen xs e (neither (sameParams x e) _ h .1) i (le-of-suc-le-suc l)
 
 or-true : (a b : Bool) → (a || b) ≡ true → (a ≡ true) ⊎ (b ≡ true)
 or-true true b h = inl refl
@@ -119,8 +119,8 @@ passed b h =
 
 count-facts : (role n : ℕ) → wrongCount role n ≡ false → (1 ≤ n) × (role ≡ 0 → n ≡ 1)
 count-facts role n h =
-    let x = or-false (eqb n 0 || ltb mostEntries n) (eqb role 0 && not (eqb n 1)) h in
-    let y = eqb-false n 0 (or-false (eqb n 0) (ltb mostEntries n) (x .0) .0) in
+    let x = neither (eqb n 0 || ltb mostEntries n) (eqb role 0 && not (eqb n 1)) h in
+    let y = eqb-false n 0 (neither (eqb n 0) (ltb mostEntries n) (x .0) .0) in
     (omega arith, λ (q : role ≡ 0). eqb-true n 1 (not-false _ (rw q at (x .1))))
 
 module _ (b : Book) (p : Passed b) where

@@ -11,9 +11,9 @@ use Rattle.book.specs.declared.Book.{Book}
 use Rattle.book.specs.Book.{bookVersion, headerLength, mostEntries, versionAt, entryStart, wordAt, bookOf}
 use Rattle.book.specs.Refusals.{orElse, leastLimit, isMark, startNo, isMask, wrongCount, valuesNo, lengthNo, entriesNo, bookNo}
 
-pub or-false : (a b : Bool) → (a || b) ≡ false → (a ≡ false) × (b ≡ false)
-or-false true b h = (h, cc)
-or-false false b h = (refl, h)
+pub neither : (a b : Bool) → (a || b) ≡ false → (a ≡ false) × (b ≡ false)
+neither true b h = (h, cc)
+neither false b h = (refl, h)
 
 pub cond-zero : (b : Bool) (k r : ℕ) → cond b (suc k) r ≡ 0 → (b ≡ false) × (r ≡ 0)
 cond-zero true k r h = absurd (omega arith)
@@ -59,7 +59,7 @@ valued b h =
       mask = not-false _ (y .0);
       limit = ltb-false _ _ (z .0);
       count = w .0;
-      few = ltb-false _ _ (or-false (eqb (b .n) 0) _ (or-false (eqb (b .n) 0 || ltb mostEntries (b .n)) _ (w .0) .0) .1);
+      few = ltb-false _ _ (neither (eqb (b .n) 0) _ (neither (eqb (b .n) 0 || ltb mostEntries (b .n)) _ (w .0) .0) .1);
     }
 
 pub sized : (s : List ℕ) (n : ℕ) → lengthNo s n ≡ 0 → length s ≡ entryStart n

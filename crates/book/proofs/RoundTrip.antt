@@ -1,8 +1,9 @@
 -- Reading, the check of a kept book and the book's own bytes agree. Assumes nothing.
 use Prim.Native.Nat.{ℕ, zero, suc, _+_, _*_, _-_, _/_, _%_, _^_, _<_, _≤_}
 use mathlib.Core.Path.{_≡_, refl, sym, ap, _∙_}
-use mathlib.Core.Bool.{true, _&&_}
+use mathlib.Core.Bool.{Bool, true, _&&_}
 use mathlib.Core.List.{List, [], _∷_, _++_}
+use mathlib.Core.Logic.{_↔_}
 use native.Mathlib.Omega.{arith}
 use native.Mathlib.Nat.{div-add-mod, not-suc-le-zero, le-of-suc-le-suc}
 use lib.ListN.{length, getD, take, drop, replicate, length-append, length-drop, length-replicate, take-append-drop, List·getD-append}
@@ -14,7 +15,7 @@ use Rattle.ground.proofs.Test.{both-left, both-right}
 use Rattle.book.specs.declared.Entry.{Entry}
 use Rattle.book.specs.declared.Book.{Book}
 use Rattle.book.specs.declared.BookRead.{BookRead}
-use Rattle.book.specs.Book.{headerLength, entryLength, mostEntries, entryStart, entryAt, entriesOf, noEntry, keptEntries, bookOf, sameParams, entryBytes, entriesBytes, headerBytes, bookBytes}
+use Rattle.book.specs.Book.{mark, headerLength, entryLength, mostEntries, entryStart, entryAt, entriesOf, noEntry, keptEntries, bookOf, sameParams, entryBytes, entriesBytes, headerBytes, bookBytes}
 use Rattle.book.specs.Refusals.{valuesNo, entriesNo, bookNo}
 use Rattle.book.specs.Reading.{accepts, readBook, hasEntry, entryPart}
 use Rattle.book.specs.Kept.{isNone, allNone, isPadded, bookOk}
@@ -133,6 +134,10 @@ passes-read b h =
     let p = passed b h in
     rw (fine-zero (bookBytes b) (written-fine b p), book-back b p)
 
+-- so the check is true exactly of the books that reading yields
+pub passes-exactly : (b : Book) → (bookOk b ≡ true) ↔ ((s : List ℕ) × (readBook s ≡ accepts b))
+passes-exactly b = (λ h. (bookBytes b, passes-read b h), λ r. read-passes (r .0) b (r .1))
+
 below-left : (b : ℕ) (xs ys : List ℕ) → allBelow b (xs ++ ys) ≡ true → allBelow b xs ≡ true
 unfolding allBelow
 below-left b [] ys h = refl
@@ -141,7 +146,7 @@ below-left b (x ∷ xs) ys h =
     let r = below-left b xs ys (both-right (ltb x b) (allBelow b (xs ++ ys)) h) in
     rw (l, r)
 
--- and these are bytes, where the limit has 16 bits and the entries' values are bytes, as their types say
+-- the book's own bytes are bytes, where the limit has 16 bits and the entries' values are bytes, as their types say
 pub written-bytes : (b : Book) → bookOk b ≡ true → b .limit < 2 ^ 16 → allBelow 256 (entriesBytes (b .entries)) ≡ true → allBelow 256 (bookBytes b) ≡ true
 unfolding bookBytes allBelow
 written-bytes b h l e =
@@ -173,10 +178,11 @@ module _ (s : List ℕ) (f : Fine s) (bytes : allBelow 256 s ≡ true) where
       let t = started s (f .start) in
       let l = t .long in
       let v = t .version in
-      let m = both-left (eqb (getD s 0 0) 84 && eqb (getD s 1 0) 76) (eqb (getD s 2 0) 66) (t .mark) in
-      let m0 = eqb-true (getD s 0 0) 84 (both-left (eqb (getD s 0 0) 84) (eqb (getD s 1 0) 76) m) in
-      let m1 = eqb-true (getD s 1 0) 76 (both-right (eqb (getD s 0 0) 84) (eqb (getD s 1 0) 76) m) in
-      let m2 = eqb-true (getD s 2 0) 66 (both-right (eqb (getD s 0 0) 84 && eqb (getD s 1 0) 76) (eqb (getD s 2 0) 66) (t .mark)) in
+      let same : ℕ → Bool = λ i. eqb (getD s i 0) (getD mark i 0) in
+      let m = both-left (same 0 && same 1) (same 2) (t .mark) in
+      let m0 = eqb-true (getD s 0 0) (getD mark 0 0) (both-left (same 0) (same 1) m) in
+      let m1 = eqb-true (getD s 1 0) (getD mark 1 0) (both-right (same 0) (same 1) m) in
+      let m2 = eqb-true (getD s 2 0) (getD mark 2 0) (both-right (same 0 && same 1) (same 2) (t .mark)) in
       let v0 : getD s 3 0 ≡ 0 = omega arith in
       let v1 : getD s 4 0 ≡ 1 = omega arith in
       let low = below-at 256 s bytes 8 (omega arith) in

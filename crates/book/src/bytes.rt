@@ -9,6 +9,8 @@ use super::Entry;
 use super::MOST_ENTRIES;
 use super::NO_ENTRIES;
 
+const BOOK_VERSION: u16 = 1;
+
 const HEADER_LENGTH: usize = 10;
 
 pub(crate) const ENTRY_LENGTH: usize = 7;
@@ -54,7 +56,7 @@ pub(crate) fn start_no(s: &[u8]) -> u8
     if !is_mark(s) {
         return 2;
     }
-    if word(s[VERSION_AT], s[VERSION_AT + 1]) != 1 {
+    if word(s[VERSION_AT], s[VERSION_AT + 1]) != BOOK_VERSION {
         return 3;
     }
     0

@@ -82,15 +82,14 @@ fn seen(es: [Entry; MOST_ENTRIES], i: usize, e: Entry) -> bool
     requires { ⌜ i ≤ mostEntries ⌝ }
     ensures { λ r. ⌜ r ≡ seenIn (take i es) e ⌝ }
 {
+    let mut found = false;
     let mut j = 0;
     while j < i {
         let x = es[j];
-        if same_params(x, e) {
-            return true;
-        }
+        found = found | same_params(x, e);
         j += 1;
     }
-    false
+    found
 }
 
 // 8, 9 and 10 of entry i.
