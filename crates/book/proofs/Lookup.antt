@@ -50,10 +50,13 @@ module _ (s : List ℕ) (i : ℕ) (a : BookRead) (ea : a ≡ readBook s) (en : n
       unfolding partAt
       place-beyond p = rw (none-beyond, add-zero)
 
-    module _ (h : i < n) (k : ℕ) (ek : k ≡ entryStart i) where
-      pub part-within : k + entryLength ≤ length s
-      part-within = let f : length s ≡ entryStart n = rw count-is (sized s (bookOf s .n) (fine s accepted .size)) in omega arith
+    -- each entry up to i lies within s
+    pub part-within : (j k : ℕ) → k ≡ entryStart j → i < n → j ≤ i → k + entryLength ≤ length s
+    part-within j k ek h g =
+        let f : length s ≡ entryStart n = rw count-is (sized s (bookOf s .n) (fine s accepted .size)) in
+        omega arith
 
+    module _ (h : i < n) (k : ℕ) (ek : k ≡ entryStart i) where
       found : hasEntry s i ≡ true
       unfolding hasEntry
       found = rw (← count-is, accepted, lt-ltb _ _ h)

@@ -38,7 +38,7 @@ part-result-start : tie.Need-part-result-start
 part-result-start c = search needs
 
 part-result-end : tie.Need-part-result-end
-part-result-end c = search part-within
+part-result-end c = search (part-within, needs)
 
 returns-3 : tie.Need-returns-3
 returns-3 c = (search parts, search places)
