@@ -3,6 +3,7 @@ use Prim.Native.Nat.{ℕ, _<_, _≤_}
 use mathlib.Core.Path.{_≡_}
 use mathlib.Core.Bool.{Bool, true, false, not}
 use mathlib.Core.List.{List}
+use native.Mathlib.Omega.{arith}
 use lib.ListN.{length}
 use borrow.Author.Tests.{lt-ltb, le-ltb, ne-eqb}
 use Rattle.book.specs.declared.Book.{Book}
@@ -60,9 +61,9 @@ module _ (s : List ℕ) (n i k : ℕ) (e : i ≡ n) (d : k ≡ entryStart i) whe
   unfolding lengthNo
   length-short h = rw (← e, ← d, lt-ltb _ _ h)
 
-  pub length-beyond : k ≤ length s → k < length s → 11 ≡ lengthNo s n
+  pub length-beyond : k < length s → 11 ≡ lengthNo s n
   unfolding lengthNo
-  length-beyond h g = rw (← e, ← d, le-ltb _ _ h, lt-ltb _ _ g)
+  length-beyond h = rw (← e, ← d, le-ltb (length s) k (omega arith), lt-ltb _ _ h)
 
   pub length-fine : k ≤ length s → length s ≤ k → 0 ≡ lengthNo s n
   unfolding lengthNo
