@@ -1,0 +1,13 @@
+mod Header
+mod Entries
+mod Loading
+mod NothingWrong
+mod Reply
+mod Lookup
+mod KeptCheck
+pub mod Params
+pub mod Kept
+mod Written
+pub mod RoundTrip
+pub mod OneReply
+pub mod Samples

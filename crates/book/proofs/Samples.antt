@@ -1,0 +1,189 @@
+-- Sample books, each written out byte by byte, with the number that refuses it or 0; and the reply, the lookup and the check of a kept
+-- book on samples. All of it is computed. Assumes nothing.
+use Prim.Native.Nat.{ℕ, _-_, _/_, _%_}
+use mathlib.Core.Path.{_≡_, refl}
+use mathlib.Core.Bool.{Bool, true, false}
+use mathlib.Core.List.{List, [], _∷_, _++_, map}
+use lib.ListN.{length, take, replicate, set}
+use Rattle.book.specs.declared.Entry.{Entry}
+use Rattle.book.specs.declared.Book.{Book}
+use Rattle.book.specs.Book.{entriesOf, keptEntries, noEntry}
+use Rattle.book.specs.Refusals.{startNo, valuesNo, lengthNo, seenIn, entryNo, eachNo, entriesNo, bookNo}
+use Rattle.book.specs.Reading.{accepts, refuses, readBook, hasEntry, entryPart, partAt}
+use Rattle.book.specs.Kept.{allNone, isPadded, bookOk}
+
+-- "TLB", version, role, mask, limit, count
+abbrev header : ℕ → ℕ → ℕ → ℕ → ℕ → List ℕ
+header version role mask limit n =
+    84 ∷ 76 ∷ 66 ∷ version / 256 ∷ version % 256 ∷ role ∷ mask ∷ limit / 256 ∷ limit % 256 ∷ n ∷ []
+
+-- an entry whose parameters are p, 2, 3, 4 and q
+abbrev entry : ℕ → ℕ → ℕ → ℕ → List ℕ
+entry p q form w = p ∷ 2 ∷ 3 ∷ 4 ∷ q ∷ form ∷ w ∷ []
+
+-- an originating book with this one entry, and an answering one with so many
+abbrev one : ℕ → List ℕ → List ℕ
+one mask e = header 1 0 mask 500 1 ++ e
+
+abbrev several : ℕ → ℕ → List ℕ → List ℕ
+several mask n es = header 1 1 mask 500 n ++ es
+
+-- six entries that differ
+abbrev six : List ℕ
+six = entry 1 5 7 0 ++ entry 2 5 7 0 ++ entry 3 5 7 0 ++ entry 4 5 7 0 ++ entry 5 5 7 0 ++ entry 6 5 7 0
+
+abbrev good : List ℕ
+good = one 3 (entry 1 5 7 0)
+
+abbrev cases : List (List ℕ × ℕ)
+cases =
+    (good, 0)
+    -- 1: fewer than 10 bytes; fewer than 10+7n
+    ∷ ([], 1)
+    ∷ (take 9 good, 1)
+    ∷ (take 10 good, 1)
+    ∷ (take 16 good, 1)
+    -- 2: each byte of the mark
+    ∷ (set good 0 116, 2)
+    ∷ (set good 1 108, 2)
+    ∷ (set good 2 98, 2)
+    -- 3: both bytes of the version count
+    ∷ (header 0 0 3 500 1 ++ entry 1 5 7 0, 3)
+    ∷ (header 2 0 3 500 1 ++ entry 1 5 7 0, 3)
+    ∷ (header 256 0 3 500 1 ++ entry 1 5 7 0, 3)
+    ∷ (header 257 0 3 500 1 ++ entry 1 5 7 0, 3)
+    -- 4
+    ∷ (header 1 2 3 500 1 ++ entry 1 5 7 0, 4)
+    ∷ (header 1 1 3 500 1 ++ entry 1 5 7 0, 0)
+    -- 5
+    ∷ (one 0 (entry 1 5 7 0), 5)
+    ∷ (one 4 (entry 1 5 7 0), 5)
+    ∷ (one 1 (entry 1 5 7 0), 0)
+    ∷ (one 2 (entry 1 5 7 0), 0)
+    -- 6
+    ∷ (header 1 0 3 424 1 ++ entry 1 5 7 0, 6)
+    ∷ (header 1 0 3 425 1 ++ entry 1 5 7 0, 0)
+    ∷ (header 1 0 3 65535 1 ++ entry 1 5 7 0, 0)
+    -- 7: none; nine; an originator's two; eight are accepted
+    ∷ (several 3 0 [], 7)
+    ∷ (several 3 9 (six ++ entry 7 5 7 0 ++ entry 8 5 7 0 ++ entry 9 5 7 0), 7)
+    ∷ (header 1 0 3 500 2 ++ entry 1 5 7 0 ++ entry 2 5 7 0, 7)
+    ∷ (several 3 2 (entry 1 5 7 0 ++ entry 2 5 7 0), 0)
+    ∷ (several 3 8 (six ++ entry 7 5 7 0 ++ entry 8 5 7 0), 0)
+    -- 11
+    ∷ (good ++ (0 ∷ []), 11)
+    -- 8: each form with the w that goes with it, and others
+    ∷ (one 3 (entry 1 5 0 4), 8)
+    ∷ (one 3 (entry 1 5 0 5), 0)
+    ∷ (one 3 (entry 1 5 0 8), 0)
+    ∷ (one 3 (entry 1 5 0 9), 8)
+    ∷ (one 3 (entry 1 5 0 0), 8)
+    ∷ (one 3 (entry 1 5 5 0), 8)
+    ∷ (one 3 (entry 1 5 6 0), 0)
+    ∷ (one 3 (entry 1 5 6 5), 8)
+    ∷ (one 3 (entry 1 5 7 8), 8)
+    ∷ (one 2 (entry 1 5 8 8), 8)
+    ∷ (one 3 (entry 1 5 9 0), 8)
+    -- 9
+    ∷ (one 1 (entry 1 5 8 0), 9)
+    ∷ (one 2 (entry 1 5 8 0), 0)
+    ∷ (one 3 (entry 1 5 8 0), 9)
+    -- 10: another form does not help; the fifth parameter counts; the last pair counts, and so do the first and the last
+    ∷ (several 3 2 (entry 1 5 7 0 ++ entry 1 5 6 0), 10)
+    ∷ (several 3 2 (entry 1 5 7 0 ++ entry 1 6 7 0), 0)
+    ∷ (several 3 2 (entry 0 0 7 0 ++ entry 0 0 7 0), 10)
+    ∷ (several 3 8 (six ++ entry 7 5 7 0 ++ entry 7 5 7 0), 10)
+    ∷ (several 3 8 (six ++ entry 7 5 7 0 ++ entry 1 5 7 0), 10)
+    -- the order: the 10 bytes come before the mark, then each number before the next
+    ∷ (0 ∷ [], 1)
+    ∷ (set (header 2 0 3 500 1) 0 0, 2)
+    ∷ (header 2 2 3 500 1, 3)
+    ∷ (header 1 2 0 500 1, 4)
+    ∷ (header 1 0 0 424 1, 5)
+    ∷ (header 1 0 3 424 0, 6)
+    -- 7 before the second 1 and before 11
+    ∷ (header 1 1 3 500 9, 7)
+    ∷ (header 1 1 3 500 0 ++ entry 1 5 7 0, 7)
+    -- the second 1 and 11 before 8
+    ∷ (several 3 2 (entry 1 5 5 0), 1)
+    ∷ (one 3 (entry 1 5 5 0 ++ entry 1 5 7 0), 11)
+    -- in one entry 8, 9, 10
+    ∷ (several 3 2 (entry 1 5 7 0 ++ entry 1 5 8 5), 8)
+    ∷ (several 3 2 (entry 1 5 7 0 ++ entry 1 5 8 0), 9)
+    -- an earlier entry's 9 or 10 before a later entry's 8
+    ∷ (several 3 2 (entry 1 5 8 0 ++ entry 2 5 5 0), 9)
+    ∷ (several 3 3 (entry 1 5 7 0 ++ entry 1 5 7 0 ++ entry 2 5 5 0), 10)
+    ∷ []
+
+pub numbers-hold : map (λ (c : List ℕ × ℕ). bookNo (c .0)) cases ≡ map (λ (c : List ℕ × ℕ). c .1) cases
+unfolding bookNo startNo valuesNo lengthNo entriesNo eachNo entryNo seenIn entriesOf keptEntries
+numbers-hold = refl
+
+-- Kept books.
+
+abbrev profile : ℕ → ℕ → ℕ → ℕ → Entry
+profile p q form w = record { p0 = p; p1 = 2; p2 = 3; p3 = 4; p4 = q; form = form; w = w }
+
+-- with nothing past the entries given
+abbrev keeps : ℕ → ℕ → ℕ → ℕ → List Entry → Book
+keeps role mask limit n es =
+    record { role = role; mask = mask; limit = limit; n = n; entries = es ++ replicate (8 - length es) noEntry }
+
+abbrev seven : List Entry
+seven = profile 1 5 7 0 ∷ profile 2 5 7 0 ∷ profile 3 5 7 0 ∷ profile 4 5 7 0 ∷ profile 5 5 7 0 ∷ profile 6 5 7 0 ∷ profile 7 5 7 0 ∷ []
+
+abbrev keptCases : List (Book × Bool)
+keptCases =
+    (keeps 0 3 500 1 (profile 1 5 7 0 ∷ []), true)
+    ∷ (keeps 1 3 425 2 (profile 1 5 0 8 ∷ profile 1 6 6 0 ∷ []), true)
+    ∷ (keeps 1 2 65535 8 (seven ++ (profile 8 5 8 0 ∷ [])), true)
+    -- the values
+    ∷ (keeps 2 3 500 1 (profile 1 5 7 0 ∷ []), false)
+    ∷ (keeps 0 0 500 1 (profile 1 5 7 0 ∷ []), false)
+    ∷ (keeps 0 3 424 1 (profile 1 5 7 0 ∷ []), false)
+    ∷ (keeps 1 3 500 0 [], false)
+    ∷ (keeps 1 3 500 9 (seven ++ (profile 8 5 7 0 ∷ [])), false)
+    ∷ (keeps 0 3 500 2 (profile 1 5 7 0 ∷ profile 2 5 7 0 ∷ []), false)
+    -- the entries
+    ∷ (keeps 1 3 500 2 (profile 1 5 7 0 ∷ profile 2 5 7 8 ∷ []), false)
+    ∷ (keeps 1 3 500 2 (profile 1 5 7 0 ∷ profile 2 5 8 0 ∷ []), false)
+    ∷ (keeps 1 3 500 8 (seven ++ (profile 7 5 7 0 ∷ [])), false)
+    -- what stands past them
+    ∷ (keeps 1 3 500 1 (profile 1 5 7 0 ∷ profile 2 5 7 0 ∷ []), false)
+    ∷ (keeps 0 3 500 1 (profile 1 5 7 0 ∷ noEntry ∷ record { p0 = 0; p1 = 0; p2 = 0; p3 = 0; p4 = 0; form = 0; w = 1 } ∷ []), false)
+    ∷ (keeps 1 3 500 7 (seven ++ (profile 8 5 7 0 ∷ [])), false)
+    ∷ (record { role = 0; mask = 3; limit = 500; n = 1; entries = profile 1 5 7 0 ∷ [] }, false)
+    ∷ []
+
+pub kept-hold : map (λ (c : Book × Bool). bookOk (c .0)) keptCases ≡ map (λ (c : Book × Bool). c .1) keptCases
+unfolding bookOk isPadded allNone valuesNo entriesNo eachNo entryNo seenIn
+kept-hold = refl
+
+-- The replies.
+
+abbrev two : List ℕ
+two = several 3 2 (entry 1 5 7 0 ++ entry 2 5 0 8)
+
+pub record Replies : Type 0 where
+  pub accepted : readBook two ≡ accepts (keeps 1 3 500 2 (profile 1 5 7 0 ∷ profile 2 5 0 8 ∷ []))
+  pub refused : readBook (take 23 two) ≡ refuses 1
+  pub first : entryPart two 0 ≡ entry 1 5 7 0
+  pub second : entryPart two 1 ≡ entry 2 5 0 8
+  pub place : partAt two 1 ≡ 17
+  pub beyond : entryPart two 2 ≡ []
+  pub of-refused : entryPart (take 23 two) 0 ≡ []
+  pub place-refused : partAt (take 23 two) 0 ≡ 0
+
+pub replies-hold : Replies
+unfolding readBook entryPart partAt hasEntry bookNo startNo valuesNo lengthNo entriesNo eachNo entryNo seenIn entriesOf keptEntries
+replies-hold =
+    record {
+      accepted = refl;
+      refused = refl;
+      first = refl;
+      second = refl;
+      place = refl;
+      beyond = refl;
+      of-refused = refl;
+      place-refused = refl;
+    }

@@ -1,0 +1,4 @@
+pub mod Book
+pub mod Refusals
+pub mod Reading
+pub mod Kept

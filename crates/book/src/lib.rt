@@ -1,0 +1,151 @@
+// The book that configures a unit: its bytes are read and kept, or refused by number, and a kept book is checked again.
+ghost use mathlib.Core.Path.{_≡_};
+ghost use Prim.Native.Nat.{_+_};
+ghost use Rattle.book.specs.Reading.{numberOf, refuses, readBook, entryPart, partAt};
+ghost use Rattle.book.specs.Refusals.{bookNo};
+ghost use Rattle.book.specs.Kept.{bookOk};
+
+mod bytes; // bytes.rt: what stands where in the bytes, and the checks of the bytes themselves
+mod checks; // checks.rt: the checks of the values and of the entries
+
+pub const ORIGINATING: u8 = 0;
+
+pub const ANSWERING: u8 = 1;
+
+const MOST_ENTRIES: usize = 8;
+
+// One profile: five parameters, the form of data, and the word's width in form 0.
+pub struct Entry {
+    pub p0: u8,
+    pub p1: u8,
+    pub p2: u8,
+    pub p3: u8,
+    pub p4: u8,
+    pub form: u8,
+    pub w: u8,
+}
+
+// The kept book. Past the n entries stand entries of zeros.
+pub struct Book {
+    pub role: u8,
+    pub mask: u8,
+    pub limit: u16,
+    pub n: u8,
+    pub entries: [Entry; MOST_ENTRIES],
+}
+
+pub enum Verdict {
+    Accepted,
+    Refused(u8),
+}
+
+// The verdict, with the kept book where it accepts, and zeros where it refuses.
+pub struct BookRead {
+    pub verdict: Verdict,
+    pub book: Book,
+}
+
+// What stands past the entries of a kept book.
+const NO_ENTRY: Entry = Entry {
+    p0: 0,
+    p1: 0,
+    p2: 0,
+    p3: 0,
+    p4: 0,
+    form: 0,
+    w: 0,
+};
+
+const NO_ENTRIES: [Entry; MOST_ENTRIES] = [NO_ENTRY; MOST_ENTRIES];
+
+// What stands beside a refusal.
+const NO_BOOK: Book = Book {
+    role: 0,
+    mask: 0,
+    limit: 0,
+    n: 0,
+    entries: NO_ENTRIES,
+};
+
+// The verdict's number: 0 for an accepted book.
+pub fn number(v: Verdict) -> u8
+    ensures { λ r. ⌜ r ≡ numberOf v ⌝ }
+{
+    match v {
+        Verdict::Accepted => 0,
+        Verdict::Refused(k) => k,
+    }
+}
+
+fn refused(k: u8) -> BookRead
+    ensures { λ r. ⌜ r ≡ refuses k ⌝ }
+{
+    BookRead {
+        verdict: Verdict::Refused(k),
+        book: NO_BOOK,
+    }
+}
+
+// The book of s, or the number that refuses it.
+pub fn read_book(s: &[u8]) -> BookRead
+    ensures { λ r. ⌜ r ≡ readBook (now (s .entry)) ⌝ }
+    ensures number { λ r. ⌜ numberOf (r .verdict) ≡ bookNo (now (s .entry)) ⌝ }
+{
+    let start = bytes::start_no(s);
+    if start != 0 {
+        return refused(start);
+    }
+    let mut book = bytes::header(s);
+    let values = checks::values_no(book);
+    if values != 0 {
+        return refused(values);
+    }
+    let length = bytes::length_no(s, book.n);
+    if length != 0 {
+        return refused(length);
+    }
+    let n = bytes::wide(book.n);
+    let es = bytes::load(s, n);
+    let entries = checks::entries_no(es, n, book.mask);
+    if entries != 0 {
+        return refused(entries);
+    }
+    book.entries = es;
+    BookRead {
+        verdict: Verdict::Accepted,
+        book: book,
+    }
+}
+
+// Entry i's seven bytes of s themselves, or an empty part for a refused book or an i not below n.
+pub fn entry_part(s: &[u8], i: usize) -> &[u8]
+    ensures { λ r. ⌜ now r ≡ entryPart (now (s .entry)) i ⌝ }
+    ensures place { λ r. ⌜ r .ptr ≡ (s .entry .ptr .0, s .entry .ptr .1 + partAt (now (s .entry)) i) ⌝ }
+{
+    let answer = read_book(s);
+    let verdict = answer.verdict;
+    if number(verdict) != 0 {
+        return &s[..0];
+    }
+    let n = bytes::wide(answer.book.n);
+    if n <= i {
+        return &s[..0];
+    }
+    let k = bytes::entry_start(i);
+    &s[k..k + bytes::ENTRY_LENGTH]
+}
+
+// Whether b is a book that reading yields.
+pub fn book_ok(b: Book) -> bool
+    ensures { λ r. ⌜ r ≡ bookOk b ⌝ }
+{
+    if checks::values_no(b) != 0 {
+        return false;
+    }
+    let es = b.entries;
+    let n = bytes::wide(b.n);
+    if checks::entries_no(es, n, b.mask) != 0 {
+        return false;
+    }
+    checks::is_padded(es, n)
+}
