@@ -1,0 +1,62 @@
+-- The worked figures of the joined pair, by computation. Assumes nothing.
+use mathlib.Core.Path.{_≡_, refl}
+use mathlib.Core.Bool.{false}
+use mathlib.Core.List.{List, [], _∷_}
+use Prim.Native.Nat.{ℕ, zero, suc}
+use lib.ListN.{replicate}
+use Rattle.book.specs.declared.Entry.{Entry}
+use Rattle.book.specs.declared.Book.{Book}
+use Rattle.book.specs.Book.{originating, answering, noEntry}
+use Rattle.protocol.specs.Opened.{idleLeads, idleSignals}
+use Rattle.protocol.specs.Slot.{started, outcomeOf}
+use Rattle.protocol.specs.Joined.{Joined, joined, joinedSlot}
+use Rattle.protocol.specs.Computing.{computing}
+use Rattle.protocol.specs.declared.Drive.{Drive}
+use Rattle.protocol.specs.declared.Offer.the-variants as offer
+use Rattle.protocol.specs.declared.Outcome.{Outcome}
+use Rattle.protocol.specs.declared.Outcome.the-variants.{Open, Refused}
+
+-- leads 0100, no break, no unit offered
+abbrev idle : Drive
+idle = record { leads = idleLeads; flag = false; offer = offer.Nothing }
+
+abbrev profile : Entry
+profile = record { p0 = 1; p1 = 2; p2 = 3; p3 = 4; p4 = 5; form = 7; w = 0 }
+
+abbrev bookFor : ℕ → ℕ → ℕ → Book
+bookFor role mask limit = record { role = role; mask = mask; limit = limit; n = 1; entries = profile ∷ replicate 7 noEntry }
+
+abbrev after : ℕ → Joined → Joined
+after zero j = j
+after (suc n) j = after n (joinedSlot idle idle j)
+
+abbrev pair : ℕ → ℕ → ℕ → ℕ → Joined
+pair maskO maskA limit d = joined (started (bookFor originating maskO limit)) (started (bookFor answering maskA limit)) d
+
+-- what both ends report after n slots
+abbrev reports : ℕ → Joined → List Outcome
+reports n j = outcomeOf (after n j .o) ∷ outcomeOf (after n j .a) ∷ []
+
+-- open in a slot, the leads and BK standing as at the opening
+abbrev opened : ℕ → Outcome
+opened slot = Open 2 profile slot idleSignals
+
+-- both masks 3, limit 500, delay 1: O open 424, A open 423
+pub opens-424-423 : reports 425 (pair 3 3 500 1) ≡ opened 424 ∷ opened 423 ∷ []
+unfolding computing
+opens-424-423 = refl
+
+-- with masks 1 and 2: O refused 21 43, A refused 21 44
+pub refused-43-44 : reports 45 (pair 1 2 500 1) ≡ Refused 21 43 ∷ Refused 21 44 ∷ []
+unfolding computing
+refused-43-44 = refl
+
+-- delay 2, limits 430: O opens in slot 429, A in 427
+pub opens-429-427 : reports 430 (pair 3 3 430 2) ≡ opened 429 ∷ opened 427 ∷ []
+unfolding computing
+opens-429-427 = refl
+
+-- limits 429: A opens in 427, O refuses 23 in slot 428
+pub refused-428 : reports 429 (pair 3 3 429 2) ≡ Refused 23 428 ∷ opened 427 ∷ []
+unfolding computing
+refused-428 = refl

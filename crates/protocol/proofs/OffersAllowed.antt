@@ -1,0 +1,112 @@
+-- When neither end is given an offer that 12 refuses: where nothing is offered, and where each unit offered is in the range of every entry
+-- of the end's book. Assumes nothing.
+use mathlib.Core.Path.{_≡_, refl, _∙_}
+use mathlib.Core.Bool.{true, _&&_}
+use mathlib.Core.List.{List}
+use Prim.Native.Nat.{ℕ, zero, suc, _+_, _<_}
+use lib.Dec.{ltb}
+use borrow.Author.Tests.{ltb-true}
+use Rattle.ground.proofs.Test.{by-test, both-left, both-right}
+use Rattle.book.specs.declared.Book.{Book}
+use Rattle.book.specs.Kept.{bookOk}
+use Rattle.channel.specs.Kinds.{kindOf}
+use Rattle.protocol.specs.Exchange.{entryOf, Turn, turn}
+use Rattle.protocol.specs.Opened.{shapeOf, hasUnit}
+use Rattle.protocol.specs.Ranges.{allZero, isVersion, outboundIn, inboundIn, phaseIn, wellFormed}
+use Rattle.protocol.specs.Slot.{exchangeIn, started, clocked, stepBy, exchangeStep, openStep, stepAt, offerFits, offerAllowed, slotOf}
+use Rattle.protocol.specs.Call.{endAt, Allowed}
+use Rattle.protocol.specs.declared.Exchange.{Exchange}
+use Rattle.protocol.specs.declared.Fate.{Fate}
+use Rattle.protocol.specs.declared.Fate.the-variants.{Stays, OpensHearing, OpensSending, Refuses}
+use Rattle.protocol.specs.declared.Line.{Line}
+use Rattle.protocol.specs.declared.Offer.{Offer}
+use Rattle.protocol.specs.declared.Offer.the-variants as offer
+use Rattle.protocol.specs.declared.Phase.{Phase}
+use Rattle.protocol.specs.declared.Phase.the-variants.{Exchanging, Open, Refused}
+use Rattle.protocol.specs.declared.Endpoint.{Endpoint}
+use Rattle.protocol.specs.declared.Drive.{Drive}
+use Rattle.protocol.specs.declared.SlotAnswer.{SlotAnswer}
+use Rattle.protocol.proofs.StateKept.{call-kept}
+
+-- Nothing is offered, ever.
+
+abbrev pub OffersNothing : (ℕ → Drive) → Type 0
+OffersNothing given = (t : ℕ) → given t .offer ≡ offer.Nothing
+
+nothing-allowed : (e : Endpoint) (g : Drive) → g .offer ≡ offer.Nothing → (p : Phase) → offerAllowed e g p ≡ true
+unfolding offerAllowed
+nothing-allowed e g q (Exchanging slot version a s) = refl
+nothing-allowed e g q (Open slot version i line) = rw q
+nothing-allowed e g q (Refused number slot) = refl
+
+pub offers-nothing-allowed : (e : Endpoint) (heard : ℕ → ℕ) (given : ℕ → Drive) → OffersNothing given → Allowed e heard given
+offers-nothing-allowed e heard given q t = nothing-allowed (endAt e heard given t) (given t) (q t) (endAt e heard given t .phase)
+
+-- Each unit offered is in the range of every entry of the book, on every version.
+
+abbrev pub OffersFit : Book → (ℕ → Drive) → Type 0
+OffersFit b given =
+    (t u : ℕ) → given t .offer ≡ offer.Unit u → (i version : ℕ) → i < b .n → hasUnit (shapeOf (entryOf b i) version) u ≡ true
+
+-- the book stays
+clocked-book : (b : Book) (slot : ℕ) (x : Exchange) → clocked b slot x .book ≡ b
+unfolding clocked
+clocked-book b slot x = by-test (λ (e : Endpoint). e .book ≡ b) (ltb (slot + 1) (b .limit)) refl refl
+
+by-book : (b : Book) (slot : ℕ) (t : Turn) (g : Drive) (f : Fate) → stepBy b slot t g f .state .book ≡ b
+by-book b slot t g Stays = clocked-book b slot (t .exchange)
+by-book b slot t g (OpensHearing i) = refl
+by-book b slot t g (OpensSending i) = refl
+by-book b slot t g (Refuses n) = refl
+
+step-book : (e : Endpoint) (heard : ℕ) (g : Drive) (p : Phase) → stepAt e heard g p .state .book ≡ e .book
+unfolding stepAt exchangeStep openStep
+step-book e heard g (Exchanging slot version a s) =
+    let t = turn (e .book) (exchangeIn e version a s) (kindOf heard) in
+    by-book (e .book) slot t g (t .fate)
+step-book e heard g (Open slot version i line) = refl
+step-book e heard g (Refused number slot) = refl
+
+slot-book : (e : Endpoint) (heard : ℕ) (g : Drive) → slotOf e heard g .state .book ≡ e .book
+unfolding slotOf
+slot-book e heard g =
+    by-test (λ (r : SlotAnswer). r .state .book ≡ e .book) (wellFormed e)
+    (by-test (λ (r : SlotAnswer). r .state .book ≡ e .book) (offerAllowed e g (e .phase)) (step-book e heard g (e .phase)) refl) refl
+
+book-stays : (b : Book) (heard : ℕ → ℕ) (given : ℕ → Drive) (t : ℕ) → endAt (started b) heard given t .book ≡ b
+unfolding endAt started
+book-stays b heard given zero = refl
+book-stays b heard given (suc t) = slot-book (endAt (started b) heard given t) (heard t) (given t) ∙ book-stays b heard given t
+
+-- an open end has opened on an entry of its book
+entry-in : (b : Book) (nibbles values : List ℕ) (slot version i : ℕ) (line : Line)
+    → phaseIn b nibbles values (Open slot version i line) ≡ true → i < b .n
+unfolding phaseIn
+entry-in b nibbles values slot version i line e =
+    let s = shapeOf (entryOf b i) version in
+    let p2 = ltb slot (b .limit) && isVersion b version in
+    let p3 = p2 && ltb i (b .n) in
+    let p4 = p3 && outboundIn s (line .outbound) in
+    let p5 = p4 && inboundIn s (line .inbound) in
+    ltb-true i (b .n)
+    (both-right p2 (ltb i (b .n))
+    (both-left p3 (outboundIn s (line .outbound)) (both-left p4 (inboundIn s (line .inbound)) (both-left p5 (allZero nibbles) e))))
+
+module _ (e : Endpoint) (w : wellFormed e ≡ true) (g : Drive)
+    (fits : (u : ℕ) → g .offer ≡ offer.Unit u → (i version : ℕ) → i < e .book .n → hasUnit (shapeOf (entryOf (e .book) i) version) u ≡ true) where
+  offer-fits : (version i : ℕ) → i < e .book .n → (f : Offer) → g .offer ≡ f → offerFits e version i f ≡ true
+  offer-fits version i l offer.Nothing q = refl
+  offer-fits version i l (offer.Unit u) q = fits u q i version l
+
+  fit-allowed : (p : Phase) → e .phase ≡ p → offerAllowed e g p ≡ true
+  unfolding offerAllowed wellFormed
+  fit-allowed (Exchanging slot version a s) q = refl
+  fit-allowed (Open slot version i line) q =
+      let within = rw q at (both-right (bookOk (e .book)) (phaseIn (e .book) (e .nibbles) (e .values) (e .phase)) w) in
+      offer-fits version i (entry-in (e .book) (e .nibbles) (e .values) slot version i line within) (g .offer) refl
+  fit-allowed (Refused number slot) q = refl
+
+pub offers-fit-allowed : (b : Book) → bookOk b ≡ true → (heard : ℕ → ℕ) (given : ℕ → Drive) → OffersFit b given → Allowed (started b) heard given
+offers-fit-allowed b ok heard given fits t =
+    let e = endAt (started b) heard given t in
+    fit-allowed e (call-kept b ok heard given t) (given t) (rw (book-stays b heard given t) (fits t)) (e .phase) refl

@@ -1,0 +1,156 @@
+-- What an originator sends from its mask on does not depend on what it hears. Assumes nothing.
+use mathlib.Core.Path.{_≡_, refl}
+use mathlib.Core.Bool.{Bool, true, false, cond, _&&_}
+use mathlib.Core.List.{List}
+use Prim.Native.Nat.{ℕ, zero, suc, _+_, _<_}
+use native.Mathlib.Numerals.{add-one}
+use native.Mathlib.Omega.{arith}
+use lib.Dec.{ltb, leb, eqb}
+use borrow.Author.Tests.{lt-ltb, le-ltb, lt-leb, le-leb}
+use Rattle.ground.proofs.Test.{by-test}
+use Rattle.book.specs.declared.Entry.{Entry}
+use Rattle.book.specs.declared.Book.{Book}
+use Rattle.book.specs.Book.{paramsOf}
+use Rattle.channel.specs.declared.kind.Kind.{Kind}
+use Rattle.channel.specs.declared.kind.Kind.the-variants.{Sgvi, Sgp, Dl, Dh, Sd, Other}
+use Rattle.protocol.specs.Lengths.{runLength, allParameterBytes}
+use Rattle.protocol.specs.Collecting.{hear, hearAt, inRun, inGroup, ofRun, dlDue, dhDue, lastDue, hasIdentifier, hasAll}
+use Rattle.protocol.specs.Exchange.{Turn, entryOf, hasParams, heardParams}
+use Rattle.protocol.specs.Sent.{Part, parameterSent}
+use Rattle.protocol.specs.declared.Awaited.{Awaited}
+use Rattle.protocol.specs.declared.Awaited.the-variants.{Run, Group, Nothing}
+use Rattle.protocol.specs.declared.Hearing.{Hearing}
+use Rattle.protocol.specs.declared.Exchange.{Exchange}
+use Rattle.protocol.specs.declared.Sending.{Sending}
+use Rattle.protocol.specs.declared.Sending.the-variants.{Mask, Parameters, Done}
+use Rattle.protocol.specs.declared.Fate.{Fate}
+use Rattle.protocol.specs.declared.Fate.the-variants.{Refuses}
+use Rattle.protocol.proofs.Segments.{Says}
+use Rattle.protocol.proofs.Core.{Core, Talks, Over, core, coreBy, turnWith, heard-as, Ended, ended, slots}
+use Rattle.protocol.proofs.Hail.{bookO}
+
+abbrev Beyond : Hearing → Type 0
+Beyond h = hasIdentifier (h .awaited) ≡ true
+
+-- once the identifier is voted, it stays so
+after-next : (b : Bool) (item : ℕ) → hasIdentifier (cond b (Run (item + 1) 0) Nothing) ≡ true
+after-next true item = rw (add-one item) (lt-ltb 0 (suc item) (omega arith))
+after-next false item = refl
+
+beyond-at : (b : Book) (h : Hearing) (k : Kind) (a : Awaited) → h .awaited ≡ a → hasIdentifier a ≡ true → Beyond (hearAt b h k a)
+unfolding hearAt inRun inGroup
+beyond-at b h k (Run item count) q e = by-test (λ (a : Awaited). hasIdentifier a ≡ true) (ofRun item k) (by-test (λ (a : Awaited). hasIdentifier a ≡ true) (ltb (count + 1) (runLength b item)) {x = Run item (count + 1)} {y = Group item 0} e e) e
+beyond-at b h (Dl x) (Group item count) q e = by-test (λ (h : Hearing). hasIdentifier (h .awaited) ≡ true) (dlDue count) e e
+beyond-at b h (Dh x) (Group item count) q e =
+    by-test (λ (h : Hearing). hasIdentifier (h .awaited) ≡ true) (dhDue count) e
+    (by-test (λ (h : Hearing). hasIdentifier (h .awaited) ≡ true) (lastDue count) (after-next (ltb item 5) item) e)
+beyond-at b h Sgvi (Group item count) q e = e
+beyond-at b h (Sgp j) (Group item count) q e = e
+beyond-at b h (Sd s bk) (Group item count) q e = e
+beyond-at b h Other (Group item count) q e = e
+beyond-at b h k Nothing q e = rw q e
+
+hear-beyond : (b : Book) (h : Hearing) (k : Kind) → Beyond h → Beyond (hear b h k)
+hear-beyond b h k e = beyond-at b h k (h .awaited) refl e
+
+-- the version is settled as v, and s is to be sent
+pub data SendsO (v : ℕ) (s : Sending) (u : Core) : Type 0 where
+  sendsO : (h : Hearing) → hasIdentifier (h .awaited) ≡ true → u ≡ Talks (record { hearing = h; version = v; sending = s }) → SendsO v s u
+
+abbrev pub settled : Hearing → ℕ → Sending → Exchange
+settled h v s = record { hearing = h; version = v; sending = s }
+
+-- i + 1 bytes of the mask have gone
+abbrev pub masks : ℕ → Sending
+masks i = cond (ltb i 5) (Mask (suc i)) (Parameters 0)
+
+module _ (mask limit n : ℕ) (entries : List Entry) (v : ℕ) (h g : Hearing) (k : Kind) (e : hasIdentifier (h .awaited) ≡ true)
+    (q : hear (bookO mask limit n entries) h k ≡ g) where
+  pub mask-on : eqb v 0 ≡ false → (i : ℕ) → i < 5
+      → core (bookO mask limit n entries) (Talks (settled h v (masks i))) k
+      ≡ record { to = Talks (settled g v (masks (suc i))); out = Says (Part (suc i) mask) }
+  unfolding slots
+  mask-on z zero l = rw (heard-as (bookO mask limit n entries) (settled h v (Mask 1)) k g q) (rw (e, z))
+  mask-on z (suc zero) l = rw (heard-as (bookO mask limit n entries) (settled h v (Mask 2)) k g q) (rw (e, z))
+  mask-on z (suc (suc zero)) l = rw (heard-as (bookO mask limit n entries) (settled h v (Mask 3)) k g q) (rw (e, z))
+  mask-on z (suc (suc (suc zero))) l = rw (heard-as (bookO mask limit n entries) (settled h v (Mask 4)) k g q) (rw (e, z))
+  mask-on z (suc (suc (suc (suc zero)))) l = rw (heard-as (bookO mask limit n entries) (settled h v (Mask 5)) k g q) (rw (e, z))
+  mask-on z (suc (suc (suc (suc (suc i))))) l = absurd (omega arith)
+
+  -- where no version is shared the mask is 00, and 21 is refused with its sixth byte
+  lack-on : v ≡ 0 → (i : ℕ) → i < 4
+      → core (bookO mask limit n entries) (Talks (settled h v (Mask (suc i)))) k
+      ≡ record { to = Talks (settled g v (Mask (suc (suc i)))); out = Says (Part (suc i) 0) }
+  unfolding slots
+  lack-on z zero l = rw (heard-as (bookO mask limit n entries) (settled h v (Mask 1)) k g q) (rw (e, z))
+  lack-on z (suc zero) l = rw (heard-as (bookO mask limit n entries) (settled h v (Mask 2)) k g q) (rw (e, z))
+  lack-on z (suc (suc zero)) l = rw (heard-as (bookO mask limit n entries) (settled h v (Mask 3)) k g q) (rw (e, z))
+  lack-on z (suc (suc (suc zero))) l = rw (heard-as (bookO mask limit n entries) (settled h v (Mask 4)) k g q) (rw (e, z))
+  lack-on z (suc (suc (suc (suc i)))) l = absurd (omega arith)
+
+  lack-last : v ≡ 0
+      → core (bookO mask limit n entries) (Talks (settled h v (Mask 5))) k
+      ≡ record { to = Over (Refuses 21) (settled g v (Parameters 0)); out = Says (Part 5 0) }
+  unfolding slots
+  lack-last z = rw (heard-as (bookO mask limit n entries) (settled h v (Mask 5)) k g q) (rw (e, z))
+
+  -- a parameter byte, the last one left out
+  pub parameter-on : (i : ℕ) → i + 1 < allParameterBytes (bookO mask limit n entries)
+      → core (bookO mask limit n entries) (Talks (settled h v (Parameters i))) k
+      ≡ record { to = Talks (settled g v (Parameters (i + 1))); out = Says (parameterSent (bookO mask limit n entries) (paramsOf (entryOf (bookO mask limit n entries) 0)) i) }
+  unfolding slots
+  parameter-on i l =
+      rw (heard-as (bookO mask limit n entries) (settled h v (Parameters i)) k g q)
+      (rw (e, lt-leb (allParameterBytes (bookO mask limit n entries)) (i + 1) l, lt-ltb (i + 1) (allParameterBytes (bookO mask limit n entries)) l))
+
+  -- the last one, where the other end's have not all come
+  pub parameter-last : (i : ℕ) → i + 1 ≡ allParameterBytes (bookO mask limit n entries) → hasAll (g .awaited) ≡ false
+      → core (bookO mask limit n entries) (Talks (settled h v (Parameters i))) k .to ≡ Talks (settled g v Done)
+  unfolding slots
+  parameter-last i l f =
+      rw (heard-as (bookO mask limit n entries) (settled h v (Parameters i)) k g q)
+      (rw (e, le-leb (allParameterBytes (bookO mask limit n entries)) (i + 1) (omega arith), le-ltb (i + 1) (allParameterBytes (bookO mask limit n entries)) (omega arith), f))
+
+  -- and what any of them says
+  parameter-said : (i : ℕ) → core (bookO mask limit n entries) (Talks (settled h v (Parameters i))) k .out
+      ≡ Says (parameterSent (bookO mask limit n entries) (paramsOf (entryOf (bookO mask limit n entries) 0)) i)
+  unfolding slots
+  parameter-said i =
+      let b = bookO mask limit n entries in
+      let t : Turn = turnWith b (settled h v (Parameters i)) g in
+      rw (heard-as b (settled h v (Parameters i)) k g q)
+      (by-test (λ (f : Fate). coreBy t f .out ≡ Says (parameterSent b (paramsOf (entryOf b 0)) i))
+      (leb (allParameterBytes b) (i + 1) && hasAll (g .awaited))
+      (by-test (λ (f : Fate). coreBy t f .out ≡ Says (parameterSent b (paramsOf (entryOf b 0)) i)) (hasParams (entryOf b 0) (heardParams g)) refl refl)
+      refl)
+
+-- The same, whatever is heard.
+module _ (mask limit n : ℕ) (entries : List Entry) (v : ℕ) where
+  pub mask-sends : eqb v 0 ≡ false → (i : ℕ) (u : Core) (k : Kind) → i < 5 → SendsO v (masks i) u
+      → SendsO v (masks (suc i)) (core (bookO mask limit n entries) u k .to) × (core (bookO mask limit n entries) u k .out ≡ Says (Part (suc i) mask))
+  mask-sends z i u k l (sendsO h e r) =
+      let g = hear (bookO mask limit n entries) h k in
+      rw (r, mask-on mask limit n entries v h g k e refl z i l) (sendsO g (hear-beyond (bookO mask limit n entries) h k e) refl, refl)
+
+  pub lack-sends : v ≡ 0 → (i : ℕ) (u : Core) (k : Kind) → i < 4 → SendsO v (Mask (suc i)) u
+      → SendsO v (Mask (suc (suc i))) (core (bookO mask limit n entries) u k .to) × (core (bookO mask limit n entries) u k .out ≡ Says (Part (suc i) 0))
+  lack-sends z i u k l (sendsO h e r) =
+      let g = hear (bookO mask limit n entries) h k in
+      rw (r, lack-on mask limit n entries v h g k e refl z i l) (sendsO g (hear-beyond (bookO mask limit n entries) h k e) refl, refl)
+
+  pub parameter-sends : (i : ℕ) (u : Core) (k : Kind) → SendsO v (Parameters i) u
+      → (suc i < allParameterBytes (bookO mask limit n entries) → SendsO v (Parameters (suc i)) (core (bookO mask limit n entries) u k .to))
+      × (core (bookO mask limit n entries) u k .out ≡ Says (parameterSent (bookO mask limit n entries) (paramsOf (entryOf (bookO mask limit n entries) 0)) i))
+  parameter-sends i u k (sendsO h e r) =
+      let g = hear (bookO mask limit n entries) h k in
+      rw r (
+        λ l. rw (parameter-on mask limit n entries v h g k e refl i (omega arith), add-one i)
+            (sendsO g (hear-beyond (bookO mask limit n entries) h k e) refl),
+        parameter-said mask limit n entries v h g k e refl i,
+      )
+
+  pub lack-ends : v ≡ 0 → (u : Core) (k : Kind) → SendsO v (Mask 5) u
+      → Ended (Refuses 21) (core (bookO mask limit n entries) u k .to) × (core (bookO mask limit n entries) u k .out ≡ Says (Part 5 0))
+  lack-ends z u k (sendsO h e r) =
+      let g = hear (bookO mask limit n entries) h k in
+      rw (r, lack-last mask limit n entries v h g k e refl z) (ended (settled g v (Parameters 0)) refl, refl)

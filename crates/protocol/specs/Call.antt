@@ -1,0 +1,33 @@
+-- A call: a start, and then slot after slot what is received and given. Assumes nothing.
+use mathlib.Core.Path.{_≡_}
+use mathlib.Core.Bool.{Bool, true}
+use Prim.Native.Nat.{ℕ, zero, suc}
+use Rattle.protocol.specs.Sent.{Sent}
+use Rattle.protocol.specs.Slot.{slotOf, stepOf, offerAllowed, outcomeOf}
+use Rattle.protocol.specs.declared.Endpoint.{Endpoint}
+use Rattle.protocol.specs.declared.Drive.{Drive}
+use Rattle.protocol.specs.declared.Delivered.{Delivered}
+use Rattle.protocol.specs.declared.Outcome.{Outcome}
+
+-- the end before slot t, from the byte received and what is given in each slot before it
+unfoldable pub endAt : Endpoint → (ℕ → ℕ) → (ℕ → Drive) → ℕ → Endpoint
+endAt e heard given zero = e
+endAt e heard given (suc t) = slotOf (endAt e heard given t) (heard t) (given t) .state
+
+-- what slot t sends, delivers and takes
+abbrev pub sentAt : Endpoint → (ℕ → ℕ) → (ℕ → Drive) → ℕ → Sent
+sentAt e heard given t = stepOf (endAt e heard given t) (heard t) (given t) .sent
+
+abbrev pub deliveredAt : Endpoint → (ℕ → ℕ) → (ℕ → Drive) → ℕ → Delivered
+deliveredAt e heard given t = stepOf (endAt e heard given t) (heard t) (given t) .delivered
+
+abbrev pub takenAt : Endpoint → (ℕ → ℕ) → (ℕ → Drive) → ℕ → Bool
+takenAt e heard given t = stepOf (endAt e heard given t) (heard t) (given t) .taken
+
+-- where the end stands before slot t
+abbrev pub standsAt : Endpoint → (ℕ → ℕ) → (ℕ → Drive) → ℕ → Outcome
+standsAt e heard given t = outcomeOf (endAt e heard given t)
+
+-- no slot is refused under 12
+abbrev pub Allowed : Endpoint → (ℕ → ℕ) → (ℕ → Drive) → Type 0
+Allowed e heard given = (t : ℕ) → offerAllowed (endAt e heard given t) (given t) (endAt e heard given t .phase) ≡ true
