@@ -1,0 +1,4 @@
+pub mod Made
+pub mod OpenMade
+pub mod PhaseParts
+pub mod StepMade

@@ -1,0 +1,18 @@
+// The start of a call.
+use crate::slot::started;
+use book::read_book;
+use protocol::Start;
+ghost use mathlib.Core.Path.{_≡_};
+ghost use Rattle.book.specs.Reading.{readBook};
+ghost use Rattle.protocol.specs.Slot.{startOf};
+
+// A lent book is refused by its number alone, or starts an end before slot 0.
+pub fn start(s: &[u8]) -> Start
+    ensures { λ r. ⌜ r ≡ startOf (readBook (now (s .entry))) ⌝ }
+{
+    let answer = read_book(s);
+    let verdict = answer.verdict;
+    let book = answer.book;
+    let state = started(book);
+    Start { verdict, state }
+}
