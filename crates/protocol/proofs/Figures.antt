@@ -1,16 +1,21 @@
--- The worked figures of the joined pair, by computation. Assumes nothing.
+-- The worked figures of the joined pair, and the sample of a run, by computation. Assumes nothing.
 use mathlib.Core.Path.{_≡_, refl}
 use mathlib.Core.Bool.{false}
-use mathlib.Core.List.{List, [], _∷_}
+use mathlib.Core.List.{List, [], _∷_, _++_}
 use Prim.Native.Nat.{ℕ, zero, suc}
 use lib.ListN.{replicate}
 use Rattle.book.specs.declared.Entry.{Entry}
 use Rattle.book.specs.declared.Book.{Book}
 use Rattle.book.specs.Book.{originating, answering, noEntry}
+use Rattle.channel.specs.Bytes.{sgvi}
 use Rattle.protocol.specs.Opened.{idleLeads, idleSignals}
-use Rattle.protocol.specs.Slot.{started, outcomeOf}
+use Rattle.protocol.specs.Slot.{started, outcomeOf, slotOf}
 use Rattle.protocol.specs.Joined.{Joined, joined, joinedSlot}
+use Rattle.protocol.specs.Votes.{awaitedBy}
 use Rattle.protocol.specs.Computing.{computing}
+use Rattle.protocol.specs.declared.Awaited.{Awaited}
+use Rattle.protocol.specs.declared.Awaited.the-variants.{Run, Group}
+use Rattle.protocol.specs.declared.Endpoint.{Endpoint}
 use Rattle.protocol.specs.declared.Drive.{Drive}
 use Rattle.protocol.specs.declared.Offer.the-variants as offer
 use Rattle.protocol.specs.declared.Outcome.{Outcome}
@@ -60,3 +65,21 @@ opens-429-427 = refl
 pub refused-428 : reports 429 (pair 3 3 429 2) ≡ Refused 23 428 ∷ opened 427 ∷ []
 unfolding computing
 refused-428 = refl
+
+-- an answerer after it has heard these bytes, one a slot
+abbrev hears : List ℕ → Endpoint → Endpoint
+hears [] e = e
+hears (b ∷ bs) e = hears bs (slotOf e b idle .state)
+
+abbrev awaitsAfter : List ℕ → Awaited
+awaitsAfter bytes = awaitedBy (hears bytes (started (bookFor answering 3 500)) .phase)
+
+-- 15 Sgvi, one 43, one Sgvi make no run: one byte of it has come
+pub no-run : awaitsAfter (replicate 15 sgvi ++ (0x43 ∷ sgvi ∷ [])) ≡ Run 0 1
+unfolding computing
+no-run = refl
+
+-- 16 in a row do: the group is awaited
+pub run-of-16 : awaitsAfter (replicate 16 sgvi) ≡ Group 0 0
+unfolding computing
+run-of-16 = refl
