@@ -1,6 +1,5 @@
 -- `endpoint::exchange::compared` meets its contract. Assumes nothing.
 use Rattle.endpoint.proofs.Compared.{compares}
--- `endpoint::exchange::compared` meets its contract. Assumes nothing.
 use borrow.Author.Needs.{needs}
 use Rattle.endpoint.proofs.exchange.compared.Statement.{statement}
 use Rattle.endpoint.proofs.exchange.compared.Tie as tie

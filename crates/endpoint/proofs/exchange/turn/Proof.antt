@@ -1,6 +1,5 @@
 -- `endpoint::exchange::turn` meets its contract. Assumes nothing.
 use Rattle.endpoint.proofs.Turns.{turns}
--- `endpoint::exchange::turn` meets its contract. Assumes nothing.
 use borrow.Author.Needs.{needs}
 use Rattle.endpoint.proofs.exchange.turn.Statement.{statement}
 use Rattle.endpoint.proofs.exchange.turn.Tie as tie

@@ -20,7 +20,6 @@ enum-known-phase-2 c = search needs
 open-step-requires : tie.Need-open-step-requires
 open-step-requires c κs = search needs
 
--- /work/proto/target/rlib/channel.rlib/interface/lang/src/byte.rt:14:34
 enum-told : tie.Need-enum-told
 enum-told c = search needs
 
