@@ -1,4 +1,4 @@
--- Any two replies that a public function's promise admits are equal: read off the promises as the source states them. Assumes nothing.
+-- Any two replies that a public function's promise admits are equal: read off the promise as the source states it, but for `start`, whose promise is written out. Assumes nothing.
 use mathlib.Core.Path.{_≡_}
 use Rattle.ground.proofs.OneReply.{one-reply}
 use Rattle.endpoint.proofs.slot.outcome.Reads as outcome
