@@ -15,6 +15,5 @@ pub mod Turns
 pub mod AllBelow
 pub mod HighNibble
 pub mod PairForms
-pub mod PastEntries
 pub mod Steps
 pub mod OneReply
