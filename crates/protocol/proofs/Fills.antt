@@ -1,6 +1,6 @@
 -- A unit that goes was offered and taken, or is the all-ones fill; so is each that was carried. Assumes nothing.
 use mathlib.Core.Path.{_≡_, refl, sym, ap, _∙_, subst}
-use mathlib.Core.Bool.{Bool, true, false, _||_}
+use mathlib.Core.Bool.{Bool, true, false}
 use mathlib.Core.List.{List, [], _∷_, _++_}
 use Prim.Native.Nat.{ℕ, zero, suc, _+_, _-_, _≤_, _<_}
 use native.Mathlib.Nat.{not-suc-le-zero, add-zero}
@@ -14,7 +14,7 @@ use Rattle.channel.specs.declared.unit.Form.{Form}
 use Rattle.channel.specs.declared.unit.Form.the-variants.{Six, SevenV1, SevenV2, Eight}
 use Rattle.channel.specs.Forms.{unitsOf}
 use Rattle.protocol.specs.Sent.{Sent, Alone, Part, Unit}
-use Rattle.protocol.specs.Opened.{Writing, pairForm, openingBytes, openingSd, writesUnit, writesOffer, writesDue, writesOpening, writesData, writing, shapeOf}
+use Rattle.protocol.specs.Opened.{Writing, pairForm, openingBytes, openingSd, writesUnit, held, writesOffer, writesDue, writesOpening, writesData, writing, shapeOf}
 use Rattle.protocol.specs.Exchange.{entryOf}
 use Rattle.protocol.specs.Slot.{openStep, stepAt, outcomeAt}
 use Rattle.protocol.specs.Call.{endAt, sentAt, takenAt}
@@ -61,7 +61,7 @@ offer-told w o g (offer.Unit u) e =
 due-told : (w : ℕ) (o : Outbound) (g : Drive) (h : Half) → ToldOf g (writesDue w o g h)
 due-told w o g (Holds high) = quiet-told false (g .offer) _ refl refl
 due-told w o g Empty =
-    by-test (ToldOf g) (g .flag || (o .bk1 || o .bk2)) (quiet-told false (g .offer) _ refl refl) (offer-told w o g (g .offer) refl)
+    by-test (ToldOf g) (held (g .flag) (o .bk1) (o .bk2)) (quiet-told false (g .offer) _ refl refl) (offer-told w o g (g .offer) refl)
 
 fill-told : (f : Form) → pairForm f ≡ true → (o : Offer) → Told false o (Unit f (unitsOf f - 1))
 fill-told f p o =

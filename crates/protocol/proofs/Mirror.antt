@@ -1,6 +1,6 @@
 -- The receiving half of an open end mirrors the sending half of the other, slot by slot, with the form as a parameter. Assumes nothing.
 use mathlib.Core.Path.{_≡_, refl, sym, ap, _∙_, subst}
-use mathlib.Core.Bool.{Bool, true, false, cond, _||_}
+use mathlib.Core.Bool.{Bool, true, false, cond}
 use mathlib.Core.List.{List, [], _∷_, _++_}
 use Prim.Native.Nat.{ℕ, _+_, _*_, _/_, _%_, _-_, _^_, _≤_, _<_, zero-le}
 use native.Mathlib.Nat.{mod-eq-of-lt, lt-of-lt-of-le}
@@ -21,7 +21,7 @@ use Rattle.channel.specs.declared.unit.Decoded.the-variants as decode
 use Rattle.channel.proofs.RoundTrip.{round-trip}
 use Rattle.channel.proofs.ReadBack.{b8-ignored, sd-read, dl-read, dh-read}
 use Rattle.protocol.specs.Sent.{Sent, Alone, Part, Unit}
-use Rattle.protocol.specs.Opened.{Reading, Writing, openingBytes, pairForm, agreed, agreedSignals, reads, readsSd, readsPair, readsSix, readsStream, reading, readsWord, writes, writesSd, writesOffer, writesDue, writesUnit, writing, writesOpening, writesData, hasUnit, freshLine, idleSignals}
+use Rattle.protocol.specs.Opened.{Reading, Writing, openingBytes, pairForm, agreed, agreedSignals, reads, readsSd, readsPair, readsSix, readsStream, reading, readsWord, writes, writesSd, held, writesOffer, writesDue, writesUnit, writing, writesOpening, writesData, hasUnit, freshLine, idleSignals}
 use Rattle.protocol.specs.Computing.{computing}
 use Rattle.protocol.specs.Carried.{carried, unitsOut, Shown, shownNext}
 use Rattle.protocol.specs.declared.Half.{Half}
@@ -35,6 +35,7 @@ use Rattle.protocol.specs.declared.Delivered.the-variants as delivered
 use Rattle.protocol.specs.declared.Offer.{Offer}
 use Rattle.protocol.specs.declared.Offer.the-variants as offer
 use Rattle.protocol.specs.declared.Drive.{Drive}
+use Rattle.protocol.proofs.Cases.{by-test}
 
 -- what of one byte sent may arrive
 abbrev pub ArrivesOne : Sent → ℕ → Type 0
@@ -169,6 +170,13 @@ module _ (w : ℕ) (o : Outbound) (i : Inbound) (h : Shown) (g : Drive) (heard :
         delivers = refl;
       })
 
+-- where a unit may be taken, the last two Sd sent had BK 0: so BK stands off at the other end, which does not ignore the unit
+not-held : (flag bk1 bk2 : Bool) → held flag bk1 bk2 ≡ false → (bk1 ≡ false) × (bk2 ≡ false)
+not-held true bk1 bk2 e = (cc, cc)
+not-held false true bk2 e = (cc, cc)
+not-held false false true e = (refl, cc)
+not-held false false false e = (refl, refl)
+
 -- one slot of form 0
 module _ (w : ℕ) (small : w ≤ 8) (i : Inbound) (h : Shown) (heard : ℕ) where
   below : (u : ℕ) → wordFits w u ≡ true → (u < 2 ^ w) × (u < 256)
@@ -177,11 +185,11 @@ module _ (w : ℕ) (small : w ≤ 8) (i : Inbound) (h : Shown) (heard : ℕ) whe
       let l : u < 2 ^ w = ltb-true u (2 ^ w) e in
       (l, lt-of-lt-of-le l (pow-mono {i = w} {j = 8} small))
 
-  word-offer : (o : Outbound) (g : Drive) (f : Offer) → g .offer ≡ f → g .flag ≡ false → o .bk1 ≡ false → o .bk2 ≡ false → 16 ≤ o .opening
+  word-offer : (o : Outbound) (g : Drive) (f : Offer) → g .offer ≡ f → o .bk1 ≡ false → o .bk2 ≡ false → 16 ≤ o .opening
       → ((u : ℕ) → g .offer ≡ offer.Unit u → wordFits w u ≡ true) → o .due ≡ Empty → i .half ≡ Empty → Words w o i h []
       → ArrivesOne (writesOffer w o g f .sent) heard → Kept (Words w) late h [] (writesOffer w o g f) (reading (shape.Word w) i heard) (g .offer)
-  word-offer o g offer.Nothing e z p q past allowed r t m a = word-sd w o i h g heard (o .opening) m r t a
-  word-offer o g (offer.Unit u) e z p q past allowed r t m a =
+  word-offer o g offer.Nothing e p q past allowed r t m a = word-sd w o i h g heard (o .opening) m r t a
+  word-offer o g (offer.Unit u) e p q past allowed r t m a =
       let b = below u (allowed u e) in word-dl w o i h g heard u (b .0) (b .1) e past p q m a
 
   word-due : (o : Outbound) (g : Drive) (pending : List ℕ) → 16 ≤ o .opening → ((u : ℕ) → g .offer ≡ offer.Unit u → wordFits w u ≡ true)
@@ -192,15 +200,11 @@ module _ (w : ℕ) (small : w ≤ 8) (i : Inbound) (h : Shown) (heard : ℕ) whe
       (word-dh w o i h g heard u l k f off m (subst (λ x. ArrivesOne (writesDue w o g x .sent) heard) e a))
   word-due o g pending past allowed m (none e f) a =
       subst (λ x. Kept (Words w) late h [] (writesDue w o g x) (reading (shape.Word w) i heard) (g .offer)) (sym e)
-      (free (g .flag) (o .bk1) (o .bk2) refl refl refl (subst (λ x. ArrivesOne (writesDue w o g x .sent) heard) e a))
-    where
-      free : (x y z : Bool) → g .flag ≡ x → o .bk1 ≡ y → o .bk2 ≡ z
-          → ArrivesOne (cond (x || (y || z)) (writesSd (shape.Word w) o (o .opening) g) (writesOffer w o g (g .offer)) .sent) heard
-          → Kept (Words w) late h [] (cond (x || (y || z)) (writesSd (shape.Word w) o (o .opening) g) (writesOffer w o g (g .offer))) (reading (shape.Word w) i heard) (g .offer)
-      free true y z p q r b = word-sd w o i h g heard (o .opening) m e f b
-      free false true z p q r b = word-sd w o i h g heard (o .opening) m e f b
-      free false false true p q r b = word-sd w o i h g heard (o .opening) m e f b
-      free false false false p q r b = word-offer o g (g .offer) refl p q r past allowed e f m b
+      (by-test
+      (λ x. ArrivesOne (x .sent) heard → Kept (Words w) late h [] x (reading (shape.Word w) i heard) (g .offer))
+      (held (g .flag) (o .bk1) (o .bk2)) (λ t. word-sd w o i h g heard (o .opening) m e f)
+      (λ t. let off = not-held (g .flag) (o .bk1) (o .bk2) t in word-offer o g (g .offer) refl (off .0) (off .1) past allowed e f m)
+      (subst (λ x. ArrivesOne (writesDue w o g x .sent) heard) e a))
 
   opening-word : (o : Outbound) (g : Drive) → ltb (o .opening) 16 ≡ true → writing (shape.Word w) o g ≡ writesSd (shape.Word w) o (o .opening + 1) g
   unfolding writing writesOpening

@@ -8,7 +8,7 @@ use borrow.Author.Tests.{lt-ltb, le-leb, ltb-true, leb-true, ltb-false}
 use Rattle.ground.proofs.Test.{both-left, both-right}
 use Rattle.channel.specs.declared.unit.Form.{Form}
 use Rattle.channel.specs.Forms.{wordFits}
-use Rattle.protocol.specs.Opened.{hasUnit, isWord, pairForm, hasPair, openingSd, openingBytes, freshLine, Writing, writesSd, writesOpening, writesOffer, writesDue, writesUnit, writesData, writing}
+use Rattle.protocol.specs.Opened.{hasUnit, isWord, pairForm, hasPair, openingSd, openingBytes, freshLine, Writing, writesSd, writesOpening, held, writesOffer, writesDue, writesUnit, writesData, writing}
 use Rattle.protocol.specs.Ranges.{dueIn, outboundIn}
 use Rattle.protocol.specs.declared.Half.{Half}
 use Rattle.protocol.specs.declared.Half.the-variants.{Empty, Holds}
@@ -72,7 +72,7 @@ module _ (w : ℕ) (o : Outbound) (g : Drive) (i : OutboundIn (shape.Word w) o) 
   due-kept : (d : Half) → Fits (shape.Word w) (g .offer) → Kept (shape.Word w) (writesDue w o g d)
   due-kept (Holds high) fits = record { opening = i .opening; due = refl; breaks = i .breaks }
   due-kept Empty fits =
-      by-test (Kept (shape.Word w)) (g .flag || (o .bk1 || o .bk2)) (λ t. sd-kept (shape.Word w) o g i (o .opening) (i .opening))
+      by-test (Kept (shape.Word w)) (held (g .flag) (o .bk1) (o .bk2)) (λ t. sd-kept (shape.Word w) o g i (o .opening) (i .opening))
       (λ t. offer-kept (g .offer) fits)
 
 unit-kept : (f : Form) (o : Outbound) (g : Drive) → OutboundIn (shape.Unit f) o → (u : Offer) → Kept (shape.Unit f) (writesUnit f o g u)

@@ -194,15 +194,19 @@ writesOpening s o g =
     cond (ltb (o .opening) openingSd) (writesSd s o (o .opening + 1) g)
     (writes o (o .opening + 1) Empty (Alone (cond (eqb (o .opening) openingSd) 0x05 0x0D)) false)
 
--- form 0: a DH due goes first; while the flag is on, Sd goes; no unit is taken unless the last two Sd sent had BK 0
+-- form 0: while the flag is on, Sd goes; no unit is taken unless the last two Sd sent had BK 0
+abbrev pub held : (flag bk1 bk2 : Bool) → Bool
+held flag bk1 bk2 = flag || (bk1 || bk2)
+
 abbrev pub writesOffer : ℕ → Outbound → Drive → Offer → Writing
 writesOffer w o g offer.Nothing = writesSd (shape.Word w) o (o .opening) g
 writesOffer w o g (offer.Unit u) = writes o (o .opening) (Holds (u / 16)) (Alone (dlByte u)) true
 
+-- a DH due goes first
 abbrev pub writesDue : ℕ → Outbound → Drive → Half → Writing
 writesDue w o g (Holds high) = writes o (o .opening) Empty (Alone (dhByte (16 * high))) false
 writesDue w o g Empty =
-    cond (g .flag || (o .bk1 || o .bk2)) (writesSd (shape.Word w) o (o .opening) g) (writesOffer w o g (g .offer))
+    cond (held (g .flag) (o .bk1) (o .bk2)) (writesSd (shape.Word w) o (o .opening) g) (writesOffer w o g (g .offer))
 
 -- forms 6, 7 and 8; with none taken form 6 sends Sd, forms 7 and 8 the unit of all ones
 abbrev pub writesUnit : Form → Outbound → Drive → Offer → Writing
