@@ -6,7 +6,7 @@ use Prim.Native.Nat.{ℕ, zero, suc, _+_, _-_, _≤_, _<_}
 use native.Mathlib.Nat.{add-zero, add-suc}
 use native.Mathlib.Decide.{decLt}
 use native.Mathlib.Omega.{arith}
-use Rattle.protocol.specs.Opened.{hasUnit, freshLine}
+use Rattle.protocol.specs.Opened.{hasUnit, freshLine, idleSignals}
 use Rattle.protocol.specs.Call.{sentAt, deliveredAt, takenAt, standsAt}
 use Rattle.protocol.specs.Carried.{carried, fill, carriedBefore, deliveredBefore, lag, shownNext, shownAfter}
 use Rattle.protocol.specs.Delivery.{signalsOf}
@@ -34,6 +34,8 @@ pub record SendsFrom (x : ℕ) (s : Shape) (e : Endpoint) (heard : ℕ → ℕ) 
 pub record ReadsFrom (y : ℕ) (s : Shape) (e : Endpoint) (heard : ℕ → ℕ) (given : ℕ → Drive) : Type 0 where
   pub quiet : (t : ℕ) → t < y → deliveredAt e heard given t ≡ delivered.Nothing
   pub delivered : (n : ℕ) → deliveredAt e heard given (y + n) ≡ comes s (λ m. heard (y + m)) n .delivered
+  -- before, it shows what it shows as if two Sdidle had come
+  pub idle : (t : ℕ) → t < y → signalsOf (standsAt e heard given t) ≡ idleSignals
   pub shows : (n : ℕ) → signalsOf (standsAt e heard given (y + n)) ≡ ins s (λ m. heard (y + m)) (freshLine .inbound) n .standing
 
 module _ (e : Endpoint) (heard : ℕ → ℕ) (given : ℕ → Drive) where
@@ -94,9 +96,22 @@ module _ (x d : ℕ) (s : Shape) (small : (w : ℕ) → s ≡ shape.Word w → w
   shown-as zero = refl
   shown-as (suc n) = ap₂ shownNext (sends .sent n) (shown-as n)
 
-  -- and the signals that the receiver shows are those of the Sd sent
-  pub signals-arrive : (n : ℕ) → signalsOf (standsAt receiver hr gr (x + d + n)) ≡ shownAfter (λ m. sentAt sender hs gs (x + m)) n .standing
-  signals-arrive n =
+  opened-shows : (n : ℕ) → signalsOf (standsAt receiver hr gr (x + d + n)) ≡ shownAfter (λ m. sentAt sender hs gs (x + m)) n .standing
+  opened-shows n =
       reads .shows n
       ∙ all-shown s (sends .drives) (λ m. hr (x + d + m)) small (sends .allowed) arrives n
       ∙ sym (ap (λ h. h .standing) (shown-as n))
+
+  -- and the signals that the receiver shows are those of the Sd sent
+  pub signals-arrive : (t : ℕ) → signalsOf (standsAt receiver hr gr t) ≡ shownAfter (λ m. sentAt sender hs gs (x + m)) (t - (x + d)) .standing
+  unfolding shownAfter
+  signals-arrive t = go (decLt t (x + d))
+    where
+      go : Dec (t < x + d) → signalsOf (standsAt receiver hr gr t) ≡ shownAfter (λ m. sentAt sender hs gs (x + m)) (t - (x + d)) .standing
+      go (yes l) =
+          let z : 0 ≡ t - (x + d) = omega arith in
+          subst (λ n. signalsOf (standsAt receiver hr gr t) ≡ shownAfter (λ m. sentAt sender hs gs (x + m)) n .standing) z (reads .idle t l)
+      go (no l) =
+          let z : x + d + (t - (x + d)) ≡ t = omega arith in
+          subst (λ u. signalsOf (standsAt receiver hr gr u) ≡ shownAfter (λ m. sentAt sender hs gs (x + m)) (t - (x + d)) .standing) z
+          (opened-shows (t - (x + d)))

@@ -11,7 +11,7 @@ use Rattle.channel.specs.Bytes.{sdidle}
 use Rattle.channel.specs.declared.unit.Form.the-variants.{Six, SevenV1, SevenV2, Eight}
 use Rattle.protocol.specs.Collecting.{noNibbles}
 use Rattle.protocol.specs.Exchange.{entryOf}
-use Rattle.protocol.specs.Opened.{shapeOf, hasUnit, reading, readsWord, writing, writesOpening, freshLine, idleLeads}
+use Rattle.protocol.specs.Opened.{shapeOf, hasUnit, reading, readsWord, writing, writesOpening, freshLine, idleLeads, idleSignals}
 use Rattle.protocol.specs.Ranges.{wellFormed}
 use Rattle.protocol.specs.Slot.{stepOf, opensHearing, outcomeAt, outcomeOf}
 use Rattle.protocol.specs.Call.{endAt, sentAt, deliveredAt, takenAt, standsAt, Allowed}
@@ -98,6 +98,9 @@ module _ (e : Endpoint) (heard : ℕ → ℕ) (given : ℕ → Drive) (kept : (t
   silent-before : (t : ℕ) → t ≤ s → deliveredAt e heard given t ≡ delivered.Nothing
   silent-before t l = exchange-quiet (endAt e heard given t) (heard t) (given t) (before t l) .delivers
 
+  idle-before : (t : ℕ) → t ≤ s → signalsOf (standsAt e heard given t) ≡ idleSignals
+  idle-before t l = ap signalsOf (before t l)
+
   -- opened by its own last byte in slot s
   module _ (version i : ℕ) (b : Book) (nibbles values : List ℕ)
       (start : endAt e heard given (suc s) ≡ record { book = b; nibbles = nibbles; values = values; phase = Open s version i freshLine }) where
@@ -136,6 +139,21 @@ module _ (e : Endpoint) (heard : ℕ → ℕ) (given : ℕ → Drive) (kept : (t
               subst (λ u. deliveredAt e heard given u ≡ delivered.Nothing) z (silent-while (t - suc s) (omega arith))
           go (no h) = silent-before t (omega arith)
 
+      idle-while : (m : ℕ) → m < k → signalsOf (standsAt e heard given (suc s + m)) ≡ idleSignals
+      unfolding outcomeAt freshLine
+      idle-while m l =
+          ap (λ u. signalsOf (outcomeOf u)) (open-run e heard given kept allowed (suc s) s version i b nibbles values freshLine start m)
+          ∙ ap (λ j. j .standing) (ins-idle laid (λ n. heard (suc s + n)) m (λ n h. idle n (omega arith)))
+
+      idle-until : (t : ℕ) → t < suc s + k → signalsOf (standsAt e heard given t) ≡ idleSignals
+      idle-until t l = go (decLt s t)
+        where
+          go : Dec (s < t) → signalsOf (standsAt e heard given t) ≡ idleSignals
+          go (yes h) =
+              let z : suc s + (t - suc s) ≡ t = omega arith in
+              subst (λ u. signalsOf (standsAt e heard given u) ≡ idleSignals) z (idle-while (t - suc s) (omega arith))
+          go (no h) = idle-before t (omega arith)
+
       same-ins : (n : ℕ) → ins laid (λ m. heard (suc s + m)) (freshLine .inbound) (k + n) ≡ ins laid (λ m. heard (suc s + k + m)) (freshLine .inbound) n
       same-ins n =
           ins-after laid (λ m. heard (suc s + m)) (freshLine .inbound) k n
@@ -158,7 +176,7 @@ module _ (e : Endpoint) (heard : ℕ → ℕ) (given : ℕ → Drive) (kept : (t
           ∙ ap (λ j. j .standing) (same-ins n))
 
       pub reads-after-idle : ReadsFrom (suc s + k) laid e heard given
-      reads-after-idle = record { quiet = quiet-until; delivered = comes-after; shows = shows-after }
+      reads-after-idle = record { quiet = quiet-until; delivered = comes-after; idle = idle-until; shows = shows-after }
 
   -- opened by a byte received in slot s
   module _ (i : ℕ) (b : Book) (x : Exchange) (start : endAt e heard given (suc s) ≡ opensHearing b s x i (given s) .state)
@@ -234,5 +252,6 @@ module _ (e : Endpoint) (heard : ℕ → ℕ) (given : ℕ → Drive) (kept : (t
         record {
           quiet = λ t l. silent-before t (omega arith);
           delivered = run-delivers e heard given kept allowed (suc s) s (x .version) i b noNibbles (x .hearing .values) line start;
+          idle = λ t l. idle-before t (omega arith);
           shows = as-shown;
         }

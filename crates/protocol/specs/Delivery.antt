@@ -22,7 +22,7 @@ use Rattle.protocol.specs.declared.Outcome.the-variants as outcome
 use Rattle.protocol.specs.declared.Endpoint.{Endpoint}
 use Rattle.protocol.specs.declared.Drive.{Drive}
 
--- the leads and BK as they stand for an open end
+-- the leads and BK as they stand for an open end; for any other, those of Sdidle
 abbrev pub signalsOf : Outcome → Signals
 signalsOf outcome.Exchanging = idleSignals
 signalsOf (outcome.Open version profile slot signals) = signals
@@ -60,8 +60,9 @@ pub record CarriesOver (d : ℕ) (s : Shape) (x : ℕ) (sender : Endpoint) (hs :
   pub taken : (t : ℕ) → takenAt sender hs gs t ≡ true → Offered (gs t .offer)
   -- a unit that goes though none was taken is the all-ones fill of forms 7 and 8
   pub between : (t : ℕ) (f : Form) (u : ℕ) → takenAt sender hs gs t ≡ false → sentAt sender hs gs t ≡ Unit f u → AllOnes f u
-  -- the leads and BK that the receiver shows are what the rule gives over the Sd that were sent
-  pub signals : (n : ℕ) → signalsOf (standsAt receiver hr gr (x + d + n)) ≡ shownAfter (λ m. sentAt sender hs gs (x + m)) n .standing
+  -- the leads and BK that the receiver shows before a slot are what the rule gives over the Sd that were sent up to that slot less the time
+  -- to arrive: before the first of them has come, those of Sdidle
+  pub signals : (t : ℕ) → signalsOf (standsAt receiver hr gr t) ≡ shownAfter (λ m. sentAt sender hs gs (x + m)) (t - (x + d)) .standing
 
 -- in the shape of the originator's profile on the highest shared version, each direction from the sender's first slot as an open end
 pub record BothCarry (d : ℕ) (bo ba : Book) (go ga : ℕ → Drive) (ho ha : ℕ → ℕ) : Type 0 where
