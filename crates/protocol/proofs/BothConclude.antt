@@ -110,21 +110,21 @@ module _ (b : Book) (heard : ℕ → ℕ) (given : ℕ → Drive) (kept : (t : �
 module _ {d mo lo co : ℕ} {eo : List Entry} {ma la ca : ℕ} {ea : List Entry} {go ga : ℕ → Drive} {ho ha : ℕ → ℕ}
     (p : JoinedPair d (bookO mo lo co eo) (bookA ma la ca ea) go ga ho ha) where
   kept-o : (t : ℕ) → wellFormed (end (bookO mo lo co eo) ho go t) ≡ true
-  kept-o = call-kept (bookO mo lo co eo) (p .bookO) ho go
+  kept-o = call-kept (bookO mo lo co eo) (p .books .bookO) ho go
 
   kept-a : (t : ℕ) → wellFormed (end (bookA ma la ca ea) ha ga t) ≡ true
-  kept-a = call-kept (bookA ma la ca ea) (p .bookA) ha ga
+  kept-a = call-kept (bookA ma la ca ea) (p .books .bookA) ha ga
 
   small-o : mo < 256
-  small-o = mask-small (bookO mo lo co eo) (p .bookO)
+  small-o = mask-small (bookO mo lo co eo) (p .books .bookO)
 
   small-a : ma < 256
-  small-a = mask-small (bookA ma la ca ea) (p .bookA)
+  small-a = mask-small (bookA ma la ca ea) (p .books .bookA)
 
   m : Meeting d 0 d (5 * d + 420) mo lo co eo ma la ca ea
       (coreAt (bookO mo lo co eo) ho go) (coreAt (bookA ma la ca ea) ha ga) (λ t. kindOf (ho t)) (λ t. kindOf (ha t))
       (saidAt (bookO mo lo co eo) ho go) (saidAt (bookA ma la ca ea) ha ga)
-  m = met d mo lo co eo ma la ca ea go ga ho ha (p .delay) (p .limitO) (p .limitA) kept-o kept-a (p .toO) (p .toA)
+  m = met d mo lo co eo ma la ca ea go ga ho ha (p .books .delay) (p .books .limitO) (p .books .limitA) kept-o kept-a (p .toO) (p .toA)
 
   -- no version: 21
   module _ (lacking : highest mo ma ≡ 0) where
@@ -132,7 +132,7 @@ module _ {d mo lo co : ℕ} {eo : List Entry} {ma la ca : ℕ} {ea : List Entry}
     refuse-21-o =
         let y : d + 2 * d + 40 ≡ 3 * d + 40 = omega arith in
         let z : d + 2 * d + 41 ≡ suc (3 * d + 40) = omega arith in
-        refuses-in (bookO mo lo co eo) ho go kept-o (3 * d + 40) (omega (arith, p .limitO))
+        refuses-in (bookO mo lo co eo) ho go kept-o (3 * d + 40) (omega (arith, p .books .limitO))
         (subst (λ t. Talking (coreAt (bookO mo lo co eo) ho go t)) y (settling.o-talks m small-a lacking)) 21
         (subst (λ t. Ended (Refuses 21) (coreAt (bookO mo lo co eo) ho go t)) z (settling.o-refuses m small-a lacking))
 
@@ -140,7 +140,7 @@ module _ {d mo lo co : ℕ} {eo : List Entry} {ma la ca : ℕ} {ea : List Entry}
     refuse-21-a =
         let y : d + 3 * d + 40 ≡ 4 * d + 40 = omega arith in
         let z : d + 3 * d + 41 ≡ suc (4 * d + 40) = omega arith in
-        refuses-in (bookA ma la ca ea) ha ga kept-a (4 * d + 40) (omega (arith, p .limitA))
+        refuses-in (bookA ma la ca ea) ha ga kept-a (4 * d + 40) (omega (arith, p .books .limitA))
         (subst (λ t. Talking (coreAt (bookA ma la ca ea) ha ga t)) y (settling.a-talks m small-a lacking)) 21
         (subst (λ t. Ended (Refuses 21) (coreAt (bookA ma la ca ea) ha ga t)) z (settling.a-refuses m small-a lacking))
 
@@ -153,7 +153,7 @@ module _ {d mo lo co : ℕ} {eo : List Entry} {ma la ca : ℕ} {ea : List Entry}
     found = matchIn ea (paramsOf (entryOf (bookO mo lo co eo) 0)) ca
 
     bytes-o : (k : ℕ) → getD (own .p0 ∷ own .p1 ∷ own .p2 ∷ own .p3 ∷ own .p4 ∷ []) k 0 < 256
-    bytes-o k = p .bytesO 0 k
+    bytes-o k = p .books .bytesO 0 k
 
     some-o : 1 ≤ parameterRun (bookO mo lo co eo)
     unfolding parameterRun
@@ -188,10 +188,10 @@ module _ {d mo lo co : ℕ} {eo : List Entry} {ma la ca : ℕ} {ea : List Entry}
         (concluding.a-concludes m small-a small-o shared (own .p0) (own .p1) (own .p2) (own .p3) (own .p4) refl bytes-o some-a enough-a)
 
     within-a : 4 * d + 419 < la
-    within-a = omega (arith, p .limitA)
+    within-a = omega (arith, p .books .limitA)
 
     within-o : 5 * d + 419 < lo
-    within-o = omega (arith, p .limitO)
+    within-o = omega (arith, p .books .limitO)
 
     -- O's, with A's reply in hand, in slot 5 d + 419
     module _ (q0 q1 q2 q3 q4 : ℕ) (replied : answered found (paramsOf own) (paramsOf (entryOf (bookA ma la ca ea) 0)) ≡ q0 ∷ q1 ∷ q2 ∷ q3 ∷ q4 ∷ [])
@@ -226,7 +226,7 @@ module _ {d mo lo co : ℕ} {eo : List Entry} {ma la ca : ℕ} {ea : List Entry}
       pub profile-is : entryOf (bookA ma la ca ea) i ≡ own
       profile-is =
           let n = names ea (paramsOf own) ca i e in
-          let f = p .forms i (n .0) (n .1) in
+          let f = p .books .forms i (n .0) (n .1) in
           same-entry (entryOf (bookA ma la ca ea) i) own (n .1) (f .0) (f .1)
 
       pub open-a : Concludes (4 * d + 419) (OpenSince (4 * d + 419) (highest mo ma) own) (standsAt (started (bookA ma la ca ea)) ha ga)
@@ -271,7 +271,7 @@ module _ {d mo lo co : ℕ} {eo : List Entry} {ma la ca : ℕ} {ea : List Entry}
       pub idled-o : (t : ℕ) → 3 * d + 231 ≤ t → t < 5 * d + 419 → sentAt (started (bookO mo lo co eo)) ho go t ≡ Alone sdidle
       unfolding parameterLead
       idled-o t hx hy =
-          timed-said (bookO mo lo co eo) ho go kept-o t (omega (arith, p .limitO)) (Alone sdidle)
+          timed-said (bookO mo lo co eo) ho go kept-o t (omega (arith, p .books .limitO)) (Alone sdidle)
           (concluding.o-idled m small-a small-o shared (own .p0) (own .p1) (own .p2) (own .p3) (own .p4) refl bytes-o some-a enough-a
           (own .p0) (own .p1) (own .p2) (own .p3) (own .p4) replied-own bytes-o some-o enough-o t (omega arith) (omega arith))
 
@@ -289,10 +289,10 @@ module _ {d mo lo co : ℕ} {eo : List Entry} {ma la ca : ℕ} {ea : List Entry}
       replied-first = rw e
 
       bytes-first : (k : ℕ) → getD (first .p0 ∷ first .p1 ∷ first .p2 ∷ first .p3 ∷ first .p4 ∷ []) k 0 < 256
-      bytes-first k = p .bytesA 0 k
+      bytes-first k = p .books .bytesA 0 k
 
       unequal : hasParams own (first .p0 ∷ first .p1 ∷ first .p2 ∷ first .p3 ∷ first .p4 ∷ []) ≡ false
-      unequal = same-comm own first ∙ names-none ea (paramsOf own) ca 0 e (has-entry (bookA ma la ca ea) (p .bookA))
+      unequal = same-comm own first ∙ names-none ea (paramsOf own) ca 0 e (has-entry (bookA ma la ca ea) (p .books .bookA))
 
       pub refuse-22-o : Concludes (5 * d + 419) (λ o. o ≡ Refused 22 (5 * d + 419)) (standsAt (started (bookO mo lo co eo)) ho go)
       refuse-22-o =

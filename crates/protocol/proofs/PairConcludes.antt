@@ -33,7 +33,7 @@ module _ (d : ℕ) (go ga : ℕ → Drive) (ho ha : ℕ → ℕ) where
       → C (bookO (bo .mask) (bo .limit) (bo .n) (bo .entries)) (bookA (ba .mask) (ba .limit) (ba .n) (ba .entries)))
       → (bo ba : Book) → JoinedPair d bo ba go ga ho ha → C bo ba
   by-roles C f bo ba p =
-      subst₂ (λ x y. JoinedPair d x y go ga ho ha → C x y) (as-o bo (p .roleO)) (as-a ba (p .roleA)) (f bo ba) p
+      subst₂ (λ x y. JoinedPair d x y go ga ho ha → C x y) (as-o bo (p .books .roleO)) (as-a ba (p .books .roleA)) (f bo ba) p
 
   module _ (bo ba : Book) (p : JoinedPair d (bookO (bo .mask) (bo .limit) (bo .n) (bo .entries)) (bookA (ba .mask) (ba .limit) (ba .n) (ba .entries)) go ga ho ha)
       (shared : eqb (highest (bo .mask) (ba .mask)) 0 ≡ false) where

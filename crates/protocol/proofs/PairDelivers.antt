@@ -142,25 +142,25 @@ module _ {d mo lo co : ℕ} {eo : List Entry} {ma la ca : ℕ} {ea : List Entry}
 
   small : (w : ℕ) → s ≡ shape.Word w → w ≤ 8
   small =
-      small-word (entryOf (bookO mo lo co eo) 0) mo (highest mo ma) (kept (bookO mo lo co eo) (p .bookO) .entry 0 (has-entry (bookO mo lo co eo) (p .bookO)))
+      small-word (entryOf (bookO mo lo co eo) 0) mo (highest mo ma) (kept (bookO mo lo co eo) (p .books .bookO) .entry 0 (has-entry (bookO mo lo co eo) (p .books .bookO)))
 
   same-shape : shapeOf (entryOf (bookA ma la ca ea) i) (highest mo ma) ≡ s
   same-shape = ap (λ x. shapeOf x (highest mo ma)) (profile-is p shared i e)
 
   sends-o : SendsFrom (5 * d + 419) s atO ho go
   sends-o =
-      sends-at-once atO ho go (call-kept (bookO mo lo co eo) (p .bookO) ho go) (p .allowedO) (5 * d + 419) (open-o p shared i e .before)
+      sends-at-once atO ho go (call-kept (bookO mo lo co eo) (p .books .bookO) ho go) (p .allowedO) (5 * d + 419) (open-o p shared i e .before)
       0 (bookO mo lo co eo) (last-exchange-o p shared i e) (state-o p shared i e) (step-o p shared i e)
 
   reads-o : ReadsFrom (suc (5 * d + 419)) s atO ho go
   reads-o =
-      reads-after atO ho go (call-kept (bookO mo lo co eo) (p .bookO) ho go) (p .allowedO) (5 * d + 419) (open-o p shared i e .before)
+      reads-after atO ho go (call-kept (bookO mo lo co eo) (p .books .bookO) ho go) (p .allowedO) (5 * d + 419) (open-o p shared i e .before)
       0 (bookO mo lo co eo) (last-exchange-o p shared i e) (state-o p shared i e) (step-o p shared i e)
 
   sends-a : SendsFrom (suc (4 * d + 419)) s atA ha ga
   sends-a =
       subst (λ x. SendsFrom (suc (4 * d + 419)) x atA ha ga) same-shape
-      (sends-after atA ha ga (call-kept (bookA ma la ca ea) (p .bookA) ha ga) (p .allowedA) (4 * d + 419) (open-a p shared i e .before)
+      (sends-after atA ha ga (call-kept (bookA ma la ca ea) (p .books .bookA) ha ga) (p .allowedA) (4 * d + 419) (open-a p shared i e .before)
       (highest mo ma) i (bookA ma la ca ea) noNibbles (last-exchange-a p shared i e .hearing .values) (state-a p shared i e))
 
   -- until O's first opening byte comes, A hears Sdidle
@@ -173,13 +173,13 @@ module _ {d mo lo co : ℕ} {eo : List Entry} {ma la ca : ℕ} {ea : List Entry}
   reads-a : ReadsFrom (suc (4 * d + 419) + (2 * d - 1)) s atA ha ga
   reads-a =
       subst (λ x. ReadsFrom (suc (4 * d + 419) + (2 * d - 1)) x atA ha ga) same-shape
-      (reads-after-idle atA ha ga (call-kept (bookA ma la ca ea) (p .bookA) ha ga) (p .allowedA) (4 * d + 419) (open-a p shared i e .before)
+      (reads-after-idle atA ha ga (call-kept (bookA ma la ca ea) (p .books .bookA) ha ga) (p .allowedA) (4 * d + 419) (open-a p shared i e .before)
       (highest mo ma) i (bookA ma la ca ea) noNibbles (last-exchange-a p shared i e .hearing .values) (state-a p shared i e)
       (2 * d - 1) idle-heard)
 
   from-o : CarriesOver d s (5 * d + 419) atO ho go atA ha ga
   from-o =
-      let z : suc (4 * d + 419) + (2 * d - 1) ≡ 5 * d + 419 + d = omega (arith, p .delay) in
+      let z : suc (4 * d + 419) + (2 * d - 1) ≡ 5 * d + 419 + d = omega (arith, p .books .delay) in
       carries-over (5 * d + 419) d s small atO atA ho ha go ga sends-o (subst (λ y. ReadsFrom y s atA ha ga) z reads-a) (p .toA)
 
   from-a : CarriesOver d s (4 * d + 420) atA ha ga atO ho go

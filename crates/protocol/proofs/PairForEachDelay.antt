@@ -14,7 +14,7 @@ use Rattle.book.specs.Kept.{allNone, isPadded, bookOk}
 use Rattle.protocol.specs.Exchange.{entryOf}
 use Rattle.protocol.specs.Opened.{idleLeads}
 use Rattle.protocol.specs.Slot.{started}
-use Rattle.protocol.specs.Pair.{OfBytes, JoinedPair}
+use Rattle.protocol.specs.Pair.{OfBytes, MayJoin, JoinedPair}
 use Rattle.protocol.specs.Undamaged.{hearsO, hearsA}
 use Rattle.protocol.specs.declared.Drive.{Drive}
 use Rattle.protocol.specs.declared.Offer.the-variants as offer
@@ -61,11 +61,24 @@ plain-forms : (d i : ℕ) → i < 1
 plain-forms d zero l = (refl, refl)
 plain-forms d (suc i) l = absurd (omega arith)
 
+plain-join : (d : ℕ) → 1 ≤ d → MayJoin d (plainBook d originating) (plainBook d answering)
+plain-join d delay =
+    record {
+      delay = delay;
+      bookO = plain-accepted d originating delay (lit< tt);
+      bookA = plain-accepted d answering delay (lit< tt);
+      bytesO = plain-bytes d originating;
+      bytesA = plain-bytes d answering;
+      roleO = refl;
+      roleA = refl;
+      limitO = omega arith;
+      limitA = omega arith;
+      forms = λ i l e. plain-forms d i l;
+    }
+
 pub pair-for-each-delay : (d : ℕ) → 1 ≤ d
     → JoinedPair d (plainBook d originating) (plainBook d answering) plainDrive plainDrive
     (hearsO (started (plainBook d originating)) (started (plainBook d answering)) d plainDrive plainDrive)
     (hearsA (started (plainBook d originating)) (started (plainBook d answering)) d plainDrive plainDrive)
 pair-for-each-delay d delay =
-    pair-exists d (plainBook d originating) (plainBook d answering) plainDrive plainDrive delay
-    (plain-accepted d originating delay (lit< tt)) (plain-accepted d answering delay (lit< tt)) (plain-bytes d originating) (plain-bytes d answering)
-    refl refl (omega arith) (omega arith) (λ i l e. plain-forms d i l) (λ t. refl) (λ t. refl)
+    pair-exists d (plainBook d originating) (plainBook d answering) plainDrive plainDrive (plain-join d delay) (λ t. refl) (λ t. refl)

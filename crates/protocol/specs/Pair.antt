@@ -21,8 +21,8 @@ use Rattle.protocol.specs.declared.Outcome.the-variants.{Exchanging, Ope
 abbrev pub OfBytes : Book → Type 0
 OfBytes b = (i k : ℕ) → getD (paramsOf (entryOf b i)) k 0 < 256
 
--- the originator's book and the answerer's, what each end is given besides what it hears, and what each hears
-pub record JoinedPair (d : ℕ) (bo ba : Book) (go ga : ℕ → Drive) (ho ha : ℕ → ℕ) : Type 0 where
+-- the originator's book and the answerer's may be joined over a delay of d slots
+pub record MayJoin (d : ℕ) (bo ba : Book) : Type 0 where
   pub delay : 1 ≤ d
   -- two accepted books of the right roles
   pub bookO : bookOk bo ≡ true
@@ -37,6 +37,10 @@ pub record JoinedPair (d : ℕ) (bo ba : Book) (go ga : ℕ → Drive) (ho ha : 
   -- equal parameters have equal form and word length in both books
   pub forms : (i : ℕ) → i < ba .n → sameParams (entryOf ba i) (entryOf bo 0) ≡ true
       → (entryOf ba i .form ≡ entryOf bo 0 .form) × (entryOf ba i .w ≡ entryOf bo 0 .w)
+
+-- two such books, what each end is given besides what it hears, and what each hears
+pub record JoinedPair (d : ℕ) (bo ba : Book) (go ga : ℕ → Drive) (ho ha : ℕ → ℕ) : Type 0 where
+  pub books : MayJoin d bo ba
   -- neither end is given an offer that 12 refuses
   pub allowedO : Allowed (started bo) ho go
   pub allowedA : Allowed (started ba) ha ga
