@@ -1,17 +1,18 @@
--- Demand 3 holds, and its premises are met: undamaged, and with a copy of every group wrong at every bit. Assumes nothing.
-use mathlib.Core.Path.{_≡_}
-use Prim.Native.Nat.{ℕ, _≤_}
-use Rattle.book.specs.Book.{originating, answering}
-use Rattle.protocol.specs.Slot.{started}
+-- What is promised of two joined ends holds, and its premises are met. Assumes nothing.
+use Prim.Native.Nat.{ℕ}
+use Rattle.book.specs.declared.Book.{Book}
 use Rattle.protocol.specs.Pair.{JoinedPair}
-use Rattle.protocol.specs.Undamaged.{hearsO, hearsA}
+use Rattle.protocol.specs.declared.Drive.{Drive}
 use Rattle.protocol.proofs.PairConcludes.{no-version, both-open, no-profile}
 use Rattle.protocol.proofs.PairDelivers.{both-carry, dipstick}
-use Rattle.protocol.proofs.PairForEachDelay.{plainBook, plainDrive, pair-for-each-delay}
-use Rattle.claims.specs.JoinedPair.{Demand3}
+use Rattle.protocol.proofs.PairExists.{pair-exists, pair-with-offers-exists, damaged-pair-exists}
+use Rattle.protocol.proofs.PairForEachDelay.{pair-for-each-delay}
+use Rattle.protocol.proofs.OneCopyWrong.{one-copy-may-be-wrong, second-copy-wrong, b8-wrong}
+use Rattle.claims.specs.JoinedPair.{JoinsAsPromised, PremisesMet}
 
-pub demand-3 : Demand3
-demand-3 d bo ba go ga ho ha p =
+pub joins-as-promised : (d : ℕ) (bo ba : Book) (go ga : ℕ → Drive) (ho ha : ℕ → ℕ) → JoinedPair d bo ba go ga ho ha
+    → JoinsAsPromised d bo ba go ga ho ha
+joins-as-promised d bo ba go ga ho ha p =
     record {
       opens = both-open d go ga ho ha bo ba p;
       carries = both-carry d go ga ho ha bo ba p;
@@ -20,9 +21,14 @@ demand-3 d bo ba go ga ho ha p =
       noProfile = no-profile d go ga ho ha bo ba p;
     }
 
--- there is such a pair for every delay
-pub some-pair : (d : ℕ) → 1 ≤ d
-    → JoinedPair d (plainBook d originating) (plainBook d answering) plainDrive plainDrive
-    (hearsO (started (plainBook d originating)) (started (plainBook d answering)) d plainDrive plainDrive)
-    (hearsA (started (plainBook d originating)) (started (plainBook d answering)) d plainDrive plainDrive)
-some-pair = pair-for-each-delay
+pub premises-met : PremisesMet
+premises-met =
+    record {
+      eachDelay = pair-for-each-delay;
+      unoffered = pair-exists;
+      offered = pair-with-offers-exists;
+      damagedPair = damaged-pair-exists;
+      allowed = one-copy-may-be-wrong;
+      secondCopy = second-copy-wrong;
+      b8 = b8-wrong;
+    }

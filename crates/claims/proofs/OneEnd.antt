@@ -1,15 +1,27 @@
--- Demands 1 and 2 hold of the definition of a slot. Assumes nothing.
-use mathlib.Core.Path.{refl}
-use Rattle.protocol.specs.Slot.{started, slotOf}
+-- Any stored state is answered in any slot, and what is said of a call holds. Assumes nothing.
+use mathlib.Core.Path.{_≡_, refl, sym, ap, _∙_}
+use mathlib.Core.Bool.{true}
+use Prim.Native.Nat.{ℕ, suc}
+use native.Mathlib.Omega.{arith}
+use Rattle.book.specs.declared.Book.{Book}
+use Rattle.book.specs.Kept.{bookOk}
+use Rattle.channel.specs.Bytes.{byte}
+use Rattle.protocol.specs.Sent.{byteSent}
+use Rattle.protocol.specs.Slot.{started, offerAllowed, outcomeOf, slotOf}
+use Rattle.protocol.specs.Call.{endAt, sentAt, deliveredAt, takenAt, standsAt}
+use Rattle.protocol.specs.declared.Endpoint.{Endpoint}
+use Rattle.protocol.specs.declared.Drive.{Drive}
+use Rattle.protocol.specs.declared.Reply.the-variants.{Passed}
+use Rattle.protocol.specs.declared.SlotAnswer.{SlotAnswer}
 use Rattle.protocol.proofs.StateKept.{slot-kept, call-kept}
 use Rattle.protocol.proofs.SlotReported.{opened-in, refused-in}
 use Rattle.protocol.proofs.EachVote.{no-other-value}
-use Rattle.protocol.proofs.CallDetermined.{call-determined}
-use Rattle.claims.specs.OneEnd.{Demand1, Demand2}
+use Rattle.protocol.proofs.CallDetermined.{call-determined, sent-determined, delivered-determined, taken-determined}
+use Rattle.claims.specs.OneEnd.{AnswersAll, CallHolds}
 
-pub demand-1 : Demand1
+pub answers-all : (e : Endpoint) (heard : ℕ) (g : Drive) → AnswersAll e heard g
 unfolding slotOf
-demand-1 e heard g =
+answers-all e heard g =
     record {
       badState = λ w. rw w refl;
       badOffer = λ w o. rw (w, o) refl;
@@ -17,12 +29,33 @@ demand-1 e heard g =
       kept = slot-kept e heard g;
     }
 
-pub demand-2 : Demand2
-demand-2 b ok heard given =
-    record {
-      kept = call-kept b ok heard given;
-      openedIn = λ t version slot profile signals. opened-in b ok heard given t;
-      refusedIn = λ t number slot. refused-in b ok heard given t;
-      voted = no-other-value b ok heard given;
-      determined = λ heard′ given′. call-determined (started b) heard heard′ given given′;
-    }
+module _ (b : Book) (ok : bookOk b ≡ true) (heard : ℕ → ℕ) (given : ℕ → Drive) where
+  slot-replies : (t : ℕ) → offerAllowed (endAt (started b) heard given t) (given t) (endAt (started b) heard given t .phase) ≡ true
+      → slotOf (endAt (started b) heard given t) (heard t) (given t) .reply
+      ≡ Passed (byte (byteSent (sentAt (started b) heard given t))) (deliveredAt (started b) heard given t) (takenAt (started b) heard given t) (standsAt (started b) heard given (suc t))
+  unfolding endAt
+  slot-replies t o =
+      let e = endAt (started b) heard given t in
+      let passed = answers-all e (heard t) (given t) .otherwise (call-kept b ok heard given t) o in
+      ap (λ (a : SlotAnswer). a .reply) passed
+      ∙ ap
+      (λ (a : SlotAnswer). Passed (byte (byteSent (sentAt (started b) heard given t))) (deliveredAt (started b) heard given t) (takenAt (started b) heard given t) (outcomeOf (a .state)))
+      (sym passed)
+
+  pub call-holds : CallHolds b heard given
+  call-holds =
+      record {
+        kept = call-kept b ok heard given;
+        replies = slot-replies;
+        openedIn = λ t version slot profile signals. opened-in b ok heard given t;
+        refusedIn = λ t number slot. refused-in b ok heard given t;
+        voted = no-other-value b ok heard given;
+        determined =
+            λ heard′ given′ t h g.
+            record {
+              sent = sent-determined (started b) heard heard′ given given′ t h g;
+              delivered = delivered-determined (started b) heard heard′ given given′ t h g;
+              taken = taken-determined (started b) heard heard′ given given′ t h g;
+              after = call-determined (started b) heard heard′ given given′ (suc t) (λ i l. h i (omega arith)) (λ i l. g i (omega arith));
+            };
+      }

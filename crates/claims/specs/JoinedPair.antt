@@ -1,12 +1,21 @@
--- Demand 3, as one statement: two ends joined by a channel. Its premises are those of JoinedPair, and no more. Assumes nothing.
+-- Two ends joined by a channel: what is promised of them, and that the premises of that are met. Assumes nothing.
 use mathlib.Core.Path.{_≡_}
-use Prim.Native.Nat.{ℕ, _+_, _*_, _≤_}
+use mathlib.Core.Bool.{false}
+use Prim.Native.Nat.{ℕ, _+_, _*_, _/_, _%_, _≤_, _<_}
 use Rattle.book.specs.declared.Book.{Book}
+use Rattle.book.specs.Book.{originating, answering}
+use Rattle.channel.specs.Bytes.{sgidle}
+use Rattle.channel.specs.Vote.{asSent}
+use Rattle.protocol.specs.Sent.{Sent, Part, byteSent}
 use Rattle.protocol.specs.Exchange.{entryOf}
 use Rattle.protocol.specs.Slot.{started}
-use Rattle.protocol.specs.Call.{standsAt}
-use Rattle.protocol.specs.Pair.{JoinedPair, ProfileIn, BothOpen, BothRefuse, sharedVersion}
+use Rattle.protocol.specs.Call.{standsAt, OffersNothing, OffersFit}
+use Rattle.protocol.specs.Damage.{copyHeard, Arrives}
+use Rattle.protocol.specs.Pair.{MayJoin, JoinedPair, ProfileIn, BothOpen, BothRefuse, sharedVersion}
 use Rattle.protocol.specs.Delivery.{BothCarry, Dipstick}
+use Rattle.protocol.specs.Undamaged.{hearsO, hearsA}
+use Rattle.protocol.specs.PlainPair.{plainBook, plainDrive}
+use Rattle.protocol.specs.OneCopyWrong.{inverted, damaged, isEight, DamagedPair}
 use Rattle.protocol.specs.declared.Drive.{Drive}
 
 module _ (d : ℕ) (bo ba : Book) (go ga : ℕ → Drive) (ho ha : ℕ → ℕ) where
@@ -30,5 +39,22 @@ module _ (d : ℕ) (bo ba : Book) (go ga : ℕ → Drive) (ho ha : ℕ → ℕ) 
     pub noProfile : SharesVersion → (ProfileIn bo ba → ⊥)
         → BothRefuse 22 (5 * d + 419) (4 * d + 419) (standsAt (started bo) ho go) (standsAt (started ba) ha ga)
 
-abbrev pub Demand3 : Type 0
-Demand3 = (d : ℕ) (bo ba : Book) (go ga : ℕ → Drive) (ho ha : ℕ → ℕ) → JoinedPair d bo ba go ga ho ha → JoinsAsPromised d bo ba go ga ho ha
+-- Its premises are met.
+
+-- two ends joined by a channel that does no damage
+abbrev pub Undamaged : ℕ → Book → Book → (ℕ → Drive) → (ℕ → Drive) → Type 0
+Undamaged d bo ba go ga = JoinedPair d bo ba go ga (hearsO (started bo) (started ba) d go ga) (hearsA (started bo) (started ba) d go ga)
+
+pub record PremisesMet : Type 0 where
+  -- for every delay, with nothing left to assume
+  pub eachDelay : (d : ℕ) → 1 ≤ d → Undamaged d (plainBook d originating) (plainBook d answering) plainDrive plainDrive
+  -- by any two books that may be joined, offered nothing or units that are in range
+  pub unoffered : (d : ℕ) (bo ba : Book) (go ga : ℕ → Drive) → MayJoin d bo ba → OffersNothing go → OffersNothing ga → Undamaged d bo ba go ga
+  pub offered : (d : ℕ) (bo ba : Book) (go ga : ℕ → Drive) → MayJoin d bo ba → OffersFit bo go → OffersFit ba ga → Undamaged d bo ba go ga
+  -- and with much damage, which the channel may do to whatever is sent
+  pub damagedPair : (d : ℕ) (bo ba : Book) (go ga : ℕ → Drive) → MayJoin d bo ba → OffersFit bo go → OffersFit ba ga → DamagedPair d bo ba go ga
+  pub allowed : (d : ℕ) (sent : ℕ → Sent) (heard : ℕ → ℕ) → ((t : ℕ) → t < d → heard t / 2 ≡ sgidle / 2)
+      → ((t : ℕ) → heard (t + d) ≡ damaged (sent t)) → Arrives d sent heard
+  -- of each group the second copy is wrong at every bit, and B8 is wrong in every byte but that of a form 8 unit
+  pub secondCopy : (v i : ℕ) → i < 8 → asSent i (copyHeard (λ place. damaged (Part place v)) 0 1) v ≡ 0
+  pub b8 : (s : Sent) → isEight s ≡ false → damaged s % 2 ≡ inverted (byteSent s % 2)

@@ -1,3 +1,7 @@
 pub mod Samples
+pub mod Books
+pub mod Packing
+pub mod Channel
 pub mod OneEnd
 pub mod JoinedPair
+pub mod Demands

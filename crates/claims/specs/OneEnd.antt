@@ -1,21 +1,22 @@
--- Demands 1 and 2 of one end, each as one statement about the definition of a slot. The promises of `endpoint` say that the code is that
--- definition: `slot` is slotOf, `start` is startOf of what the book reads as. Assumes nothing.
+-- Any stored state in any slot, and any call from an accepted book. Assumes nothing.
 use mathlib.Core.Path.{_≡_}
 use mathlib.Core.Bool.{true, false}
 use mathlib.Core.Logic.{_⊎_}
-use Prim.Native.Nat.{ℕ, suc, _<_}
+use Prim.Native.Nat.{ℕ, suc, _≤_}
 use Rattle.book.specs.declared.Entry.{Entry}
 use Rattle.book.specs.declared.Book.{Book}
-use Rattle.book.specs.Kept.{bookOk}
+use Rattle.channel.specs.Bytes.{byte}
+use Rattle.protocol.specs.Sent.{byteSent}
 use Rattle.protocol.specs.Ranges.{wellFormed}
 use Rattle.protocol.specs.Slot.{started, stepOf, offerAllowed, passes, refuses, slotOf}
-use Rattle.protocol.specs.Call.{endAt, standsAt}
+use Rattle.protocol.specs.Call.{endAt, sentAt, deliveredAt, takenAt, standsAt}
 use Rattle.protocol.specs.Concluding.{LeavesIn}
 use Rattle.protocol.specs.Votes.{Votes}
 use Rattle.protocol.specs.declared.Endpoint.{Endpoint}
 use Rattle.protocol.specs.declared.Drive.{Drive}
 use Rattle.protocol.specs.declared.Signals.{Signals}
 use Rattle.protocol.specs.declared.Outcome.the-variants.{Open, Refused}
+use Rattle.protocol.specs.declared.Reply.the-variants.{Passed}
 
 -- any stored state, received byte and drive has a defined reply; what is refused gives back the state as it came
 pub record AnswersAll (e : Endpoint) (heard : ℕ) (g : Drive) : Type 0 where
@@ -25,12 +26,20 @@ pub record AnswersAll (e : Endpoint) (heard : ℕ) (g : Drive) : Type 0 where
   -- and a state that is in its ranges stays so
   pub kept : wellFormed e ≡ true → wellFormed (slotOf e heard g .state) ≡ true
 
-abbrev pub Demand1 : Type 0
-Demand1 = (e : Endpoint) (heard : ℕ) (g : Drive) → AnswersAll e heard g
+-- in one slot two calls send, deliver and take the same, and their ends after it are the same
+pub record SameSlot (e : Endpoint) (heard heard′ : ℕ → ℕ) (given given′ : ℕ → Drive) (t : ℕ) : Type 0 where
+  pub sent : sentAt e heard given t ≡ sentAt e heard′ given′ t
+  pub delivered : deliveredAt e heard given t ≡ deliveredAt e heard′ given′ t
+  pub taken : takenAt e heard given t ≡ takenAt e heard′ given′ t
+  pub after : endAt e heard given (suc t) ≡ endAt e heard′ given′ (suc t)
 
 -- a call from an accepted book, whatever it hears and is given
 pub record CallHolds (b : Book) (heard : ℕ → ℕ) (given : ℕ → Drive) : Type 0 where
   pub kept : (t : ℕ) → wellFormed (endAt (started b) heard given t) ≡ true
+  -- a slot passes unless 12 refuses its offer, and its reply is what the slot sends, delivers and takes and where the end then stands
+  pub replies : (t : ℕ) → offerAllowed (endAt (started b) heard given t) (given t) (endAt (started b) heard given t .phase) ≡ true
+      → slotOf (endAt (started b) heard given t) (heard t) (given t) .reply
+      ≡ Passed (byte (byteSent (sentAt (started b) heard given t))) (deliveredAt (started b) heard given t) (takenAt (started b) heard given t) (standsAt (started b) heard given (suc t))
   -- the slot of opening and of refusing is the count of slots since the start
   pub openedIn : (t version slot : ℕ) (profile : Entry) (signals : Signals) → standsAt (started b) heard given t ≡ Open version profile slot signals
       → LeavesIn (started b) heard given slot
@@ -38,9 +47,6 @@ pub record CallHolds (b : Book) (heard : ℕ → ℕ) (given : ℕ → Drive) : 
   -- a value that is voted is the majority of six bytes that came one after the other: no copy of a dropped group counts
   pub voted : (u : ℕ)
       → (endAt (started b) heard given (suc u) .values ≡ endAt (started b) heard given u .values) ⊎ ((item : ℕ) × Votes (started b) heard given u item)
-  -- what the call is depends on its book and on what it hears and is given, and on nothing else
-  pub determined : (heard′ : ℕ → ℕ) (given′ : ℕ → Drive) (t : ℕ) → ((i : ℕ) → i < t → heard i ≡ heard′ i) → ((i : ℕ) → i < t → given i ≡ given′ i)
-      → endAt (started b) heard given t ≡ endAt (started b) heard′ given′ t
-
-abbrev pub Demand2 : Type 0
-Demand2 = (b : Book) → bookOk b ≡ true → (heard : ℕ → ℕ) (given : ℕ → Drive) → CallHolds b heard given
+  -- what a slot of the call does depends on its book and on what the call has heard and been given up to that slot, and on nothing else
+  pub determined : (heard′ : ℕ → ℕ) (given′ : ℕ → Drive) (t : ℕ) → ((i : ℕ) → i ≤ t → heard i ≡ heard′ i) → ((i : ℕ) → i ≤ t → given i ≡ given′ i)
+      → SameSlot (started b) heard heard′ given given′ t

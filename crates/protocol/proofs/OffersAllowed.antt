@@ -14,7 +14,7 @@ use Rattle.protocol.specs.Exchange.{entryOf, Turn, turn}
 use Rattle.protocol.specs.Opened.{shapeOf, hasUnit}
 use Rattle.protocol.specs.Ranges.{allZero, isVersion, outboundIn, inboundIn, phaseIn, wellFormed}
 use Rattle.protocol.specs.Slot.{exchangeIn, started, clocked, stepBy, exchangeStep, openStep, stepAt, offerFits, offerAllowed, slotOf}
-use Rattle.protocol.specs.Call.{endAt, Allowed}
+use Rattle.protocol.specs.Call.{endAt, Allowed, OffersNothing, OffersFit}
 use Rattle.protocol.specs.declared.Exchange.{Exchange}
 use Rattle.protocol.specs.declared.Fate.{Fate}
 use Rattle.protocol.specs.declared.Fate.the-variants.{Stays, OpensHearing, OpensSending, Refuses}
@@ -28,11 +28,6 @@ use Rattle.protocol.specs.declared.Drive.{Drive}
 use Rattle.protocol.specs.declared.SlotAnswer.{SlotAnswer}
 use Rattle.protocol.proofs.StateKept.{call-kept}
 
--- Nothing is offered, ever.
-
-abbrev pub OffersNothing : (ℕ → Drive) → Type 0
-OffersNothing given = (t : ℕ) → given t .offer ≡ offer.Nothing
-
 nothing-allowed : (e : Endpoint) (g : Drive) → g .offer ≡ offer.Nothing → (p : Phase) → offerAllowed e g p ≡ true
 unfolding offerAllowed
 nothing-allowed e g q (Exchanging slot version a s) = refl
@@ -41,12 +36,6 @@ nothing-allowed e g q (Refused number slot) = refl
 
 pub offers-nothing-allowed : (e : Endpoint) (heard : ℕ → ℕ) (given : ℕ → Drive) → OffersNothing given → Allowed e heard given
 offers-nothing-allowed e heard given q t = nothing-allowed (endAt e heard given t) (given t) (q t) (endAt e heard given t .phase)
-
--- Each unit offered is in the range of every entry of the book, on every version.
-
-abbrev pub OffersFit : Book → (ℕ → Drive) → Type 0
-OffersFit b given =
-    (t u : ℕ) → given t .offer ≡ offer.Unit u → (i version : ℕ) → i < b .n → hasUnit (shapeOf (entryOf b i) version) u ≡ true
 
 -- the book stays
 clocked-book : (b : Book) (slot : ℕ) (x : Exchange) → clocked b slot x .book ≡ b

@@ -3,12 +3,12 @@
 use Prim.Native.Nat.{ℕ}
 use Rattle.book.specs.declared.Book.{Book}
 use Rattle.protocol.specs.Slot.{started}
-use Rattle.protocol.specs.Call.{Allowed}
+use Rattle.protocol.specs.Call.{Allowed, OffersNothing, OffersFit}
 use Rattle.protocol.specs.Pair.{MayJoin, JoinedPair}
 use Rattle.protocol.specs.Undamaged.{hearsO, hearsA}
 use Rattle.protocol.specs.OneCopyWrong.{DamagedPair}
 use Rattle.protocol.specs.declared.Drive.{Drive}
-use Rattle.protocol.proofs.OffersAllowed.{OffersNothing, offers-nothing-allowed, OffersFit, offers-fit-allowed}
+use Rattle.protocol.proofs.OffersAllowed.{offers-nothing-allowed, offers-fit-allowed}
 use Rattle.protocol.proofs.UndamagedCalls.{to-o, to-a}
 use Rattle.protocol.proofs.DamagedCalls as much
 

@@ -1,39 +1,20 @@
 -- For every delay there are books that may be joined, and so a joined pair with nothing left to assume. Assumes nothing.
 use mathlib.Core.Path.{_≡_, refl}
-use mathlib.Core.Bool.{true, false}
-use mathlib.Core.List.{_∷_}
+use mathlib.Core.Bool.{true}
 use Prim.Native.Nat.{ℕ, zero, suc, _+_, _*_, _≤_, _<_}
 use native.Mathlib.Omega.{arith}
 use lib.Dec.{lit<}
 use lib.ListN.{getD, replicate}
 use borrow.Author.Tests.{le-ltb}
-use Rattle.book.specs.declared.Book.{Book}
 use Rattle.book.specs.Book.{originating, answering, noEntry, paramsOf}
 use Rattle.book.specs.Refusals.{valuesNo, seenIn, entryNo, eachNo, entriesNo}
 use Rattle.book.specs.Kept.{allNone, isPadded, bookOk}
 use Rattle.protocol.specs.Exchange.{entryOf}
-use Rattle.protocol.specs.Opened.{idleLeads}
 use Rattle.protocol.specs.Slot.{started}
 use Rattle.protocol.specs.Pair.{OfBytes, MayJoin, JoinedPair}
 use Rattle.protocol.specs.Undamaged.{hearsO, hearsA}
-use Rattle.protocol.specs.declared.Drive.{Drive}
-use Rattle.protocol.specs.declared.Offer.the-variants as offer
+use Rattle.protocol.specs.PlainPair.{plainBook, plainDrive}
 use Rattle.protocol.proofs.PairExists.{pair-exists}
-
--- one entry, form 6, its five parameters 0, and the least limit that the delay leaves
-abbrev pub plainBook : ℕ → ℕ → Book
-plainBook d role =
-    record {
-      role = role;
-      mask = 3;
-      limit = 5 * d + 420;
-      n = 1;
-      entries = record { p0 = 0; p1 = 0; p2 = 0; p3 = 0; p4 = 0; form = 6; w = 0 } ∷ replicate 7 noEntry;
-    }
-
--- leads 0100, no break, no unit offered
-abbrev pub plainDrive : ℕ → Drive
-plainDrive t = record { leads = idleLeads; flag = false; offer = offer.Nothing }
 
 plain-accepted : (d role : ℕ) → 1 ≤ d → role < 2 → bookOk (plainBook d role) ≡ true
 unfolding bookOk valuesNo entriesNo eachNo entryNo seenIn isPadded allNone

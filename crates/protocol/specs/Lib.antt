@@ -14,5 +14,6 @@ pub mod Carried
 pub mod Delivery
 pub mod Joined
 pub mod Undamaged
+pub mod PlainPair
 pub mod OneCopyWrong
 pub mod Computing

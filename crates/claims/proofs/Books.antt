@@ -1,0 +1,119 @@
+-- Any bytes are answered as a book, and reading and writing one undo each other. Assumes nothing.
+use mathlib.Core.Path.{_≡_, refl, sym, ap, _∙_}
+use mathlib.Core.Bool.{Bool, true, false, cond, not, _&&_}
+use mathlib.Core.List.{List, [], _∷_, _++_}
+use Prim.Native.Nat.{ℕ, _≤_}
+use lib.Dec.{eqb, ltb, lit≤}
+use lib.ListN.{length}
+use borrow.Author.Tests.{ne-eqb, eqb-true}
+use Rattle.ground.proofs.Test.{by-test}
+use Rattle.book.specs.declared.Entry.{Entry}
+use Rattle.book.specs.declared.Book.{Book}
+use Rattle.book.specs.declared.BookRead.{BookRead}
+use Rattle.book.specs.Book.{bookVersion, answering, headerLength, versionAt, entryStart, wordAt, bookOf}
+use Rattle.book.specs.Refusals.{orElse, leastLimit, isMark, startNo, isMask, wrongCount, valuesNo, lengthNo, isForm, isWidth, isBarred, seenIn, entryNo, eachNo, entriesNo, bookNo}
+use Rattle.book.specs.Reading.{numberOf, accepts, refuses, readBook, hasEntry, entryPart}
+use Rattle.book.specs.Kept.{bookOk}
+use Rattle.book.proofs.RoundTrip.{read-passes, passes-read, read-written, part-is-entry}
+use Rattle.protocol.specs.Ranges.{wellFormed}
+use Rattle.protocol.specs.Slot.{started, startOf}
+use Rattle.protocol.proofs.StateKept.{started-kept}
+use Rattle.claims.specs.Books.{lastNumber, BookAnswered, BooksUndone}
+
+-- Each check has one of the numbers.
+
+abbrev Numbered : ℕ → Type 0
+Numbered n = n ≤ lastNumber
+
+start-numbered : (s : List ℕ) → Numbered (startNo s)
+unfolding startNo
+start-numbered s =
+    by-test Numbered (ltb (length s) headerLength) (lit≤ tt)
+    (by-test Numbered (not (isMark s)) (lit≤ tt)
+    (by-test Numbered (not (eqb (wordAt s versionAt) bookVersion)) (lit≤ tt) (lit≤ tt)))
+
+values-numbered : (b : Book) → Numbered (valuesNo b)
+unfolding valuesNo
+values-numbered b =
+    by-test Numbered (ltb answering (b .role)) (lit≤ tt)
+    (by-test Numbered (not (isMask (b .mask))) (lit≤ tt)
+    (by-test Numbered (ltb (b .limit) leastLimit) (lit≤ tt)
+    (by-test Numbered (wrongCount (b .role) (b .n)) (lit≤ tt) (lit≤ tt))))
+
+length-numbered : (s : List ℕ) (n : ℕ) → Numbered (lengthNo s n)
+unfolding lengthNo
+length-numbered s n =
+    by-test Numbered (ltb (length s) (entryStart n)) (lit≤ tt) (by-test Numbered (ltb (entryStart n) (length s)) (lit≤ tt) (lit≤ tt))
+
+entry-numbered : (mask : ℕ) (earlier : List Entry) (e : Entry) → Numbered (entryNo mask earlier e)
+unfolding entryNo
+entry-numbered mask earlier e =
+    by-test Numbered (not (isForm (e .form) && isWidth (e .form) (e .w))) (lit≤ tt)
+    (by-test Numbered (isBarred mask (e .form)) (lit≤ tt)
+    (by-test Numbered (seenIn earlier e) (lit≤ tt) (lit≤ tt)))
+
+-- of two checks one after the other
+else-numbered : (a b : ℕ) → Numbered a → Numbered b → Numbered (orElse a b)
+else-numbered a b p q = by-test Numbered (eqb a 0) q p
+
+each-numbered : (mask : ℕ) (earlier es : List Entry) → Numbered (eachNo mask earlier es)
+unfolding eachNo
+each-numbered mask earlier [] = lit≤ tt
+each-numbered mask earlier (e ∷ es) =
+    else-numbered (entryNo mask earlier e) (eachNo mask (earlier ++ (e ∷ [])) es) (entry-numbered mask earlier e) (each-numbered mask (earlier ++ (e ∷ [])) es)
+
+book-numbered : (s : List ℕ) → Numbered (bookNo s)
+unfolding bookNo entriesNo
+book-numbered s =
+    else-numbered (startNo s) _ (start-numbered s)
+    (else-numbered (valuesNo (bookOf s)) _ (values-numbered (bookOf s))
+    (else-numbered (lengthNo s (bookOf s .n)) _ (length-numbered s (bookOf s .n)) (each-numbered (bookOf s .mask) [] _)))
+
+-- A refused book, and an accepted one.
+
+module _ (s : List ℕ) where
+  read-refused : (bookNo s ≡ 0 → ⊥) → readBook s ≡ refuses (bookNo s)
+  unfolding readBook
+  read-refused n = rw (ne-eqb (bookNo s) 0 n) refl
+
+  read-accepted : bookNo s ≡ 0 → readBook s ≡ accepts (bookOf s)
+  unfolding readBook
+  read-accepted e = rw e refl
+
+  -- the book of zeros passes no check
+  zeros-refused : (number : ℕ) → wellFormed (startOf (refuses number) .state) ≡ false
+  unfolding startOf started wellFormed bookOk valuesNo
+  zeros-refused number = refl
+
+  starts-kept : bookNo s ≡ 0 → wellFormed (startOf (readBook s) .state) ≡ wellFormed (started (bookOf s))
+  unfolding startOf
+  starts-kept e = ap (λ (r : BookRead). wellFormed (started (r .book))) (read-accepted e)
+
+  told-number : numberOf (startOf (readBook s) .verdict) ≡ bookNo s
+  unfolding startOf readBook
+  told-number = go (eqb (bookNo s) 0) refl
+    where
+      go : (x : Bool) → eqb (bookNo s) 0 ≡ x → numberOf (cond x (accepts (bookOf s)) (refuses (bookNo s)) .verdict) ≡ bookNo s
+      go true e = sym (eqb-true (bookNo s) 0 e)
+      go false e = refl
+
+  part-empty : (i : ℕ) → hasEntry s i ≡ false → entryPart s i ≡ []
+  unfolding entryPart
+  part-empty i e = rw e refl
+
+pub book-answered : (s : List ℕ) → BookAnswered s
+book-answered s =
+    record {
+      told = told-number s;
+      range = book-numbered s;
+      refused = read-refused s;
+      noCall = λ n. ap (λ (r : BookRead). wellFormed (startOf r .state)) (read-refused s n) ∙ zeros-refused s (bookNo s);
+      accepted = read-accepted s;
+      passes = λ e. read-passes s (bookOf s) (read-accepted s e);
+      starts = λ e. starts-kept s e ∙ started-kept (bookOf s) (read-passes s (bookOf s) (read-accepted s e));
+      entry = λ i e l. part-is-entry s (bookOf s) i (read-accepted s e) l;
+      noPart = part-empty s;
+    }
+
+pub books-undone : BooksUndone
+books-undone = record { read = passes-read; written = read-written }
