@@ -13,6 +13,7 @@ use Rattle.protocol.specs.declared.Endpoint.{Endpoint}
 use Rattle.protocol.specs.declared.Drive.{Drive}
 use Rattle.protocol.specs.declared.Reply.the-variants.{Passed}
 use Rattle.protocol.specs.declared.SlotAnswer.{SlotAnswer}
+use Rattle.protocol.proofs.SlotPasses.{slot-passes}
 use Rattle.protocol.proofs.StateKept.{slot-kept, call-kept}
 use Rattle.protocol.proofs.SlotReported.{opened-in, refused-in}
 use Rattle.protocol.proofs.EachVote.{no-other-value}
@@ -25,7 +26,7 @@ answers-all e heard g =
     record {
       badState = λ w. rw w refl;
       badOffer = λ w o. rw (w, o) refl;
-      otherwise = λ w o. rw (w, o) refl;
+      otherwise = slot-passes e heard g;
       kept = slot-kept e heard g;
     }
 

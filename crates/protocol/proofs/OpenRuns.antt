@@ -18,6 +18,7 @@ use Rattle.protocol.specs.declared.Phase.the-variants.{Open}
 use Rattle.protocol.specs.declared.Endpoint.{Endpoint}
 use Rattle.protocol.specs.declared.Offer.the-variants as offer
 use Rattle.protocol.specs.declared.Drive.{Drive}
+use Rattle.protocol.specs.declared.SlotAnswer.{SlotAnswer}
 use Rattle.protocol.proofs.SlotPasses.{slot-passes}
 
 -- the sending half after n slots of what is given, the receiving half after n bytes
@@ -48,7 +49,7 @@ module _ (e : Endpoint) (heard : ℕ → ℕ) (given : ℕ → Drive) (kept : (t
   one-slot : (n : ℕ) → endAt e heard given (x + n) ≡ opened n → endAt e heard given (suc (x + n)) ≡ opened (suc n)
   unfolding endAt stepAt openStep outs ins
   one-slot n q =
-      slot-passes (endAt e heard given (x + n)) (heard (x + n)) (given (x + n)) (kept (x + n)) (allowed (x + n))
+      ap (λ (a : SlotAnswer). a .state) (slot-passes (endAt e heard given (x + n)) (heard (x + n)) (given (x + n)) (kept (x + n)) (allowed (x + n)))
       ∙ ap (λ u. stepOf u (heard (x + n)) (given (x + n)) .state) q
 
   pub open-run : (n : ℕ) → endAt e heard given (x + n) ≡ opened n

@@ -3,7 +3,7 @@ use mathlib.Core.Path.{_≡_}
 use mathlib.Core.Bool.{true}
 use Prim.Native.Nat.{ℕ}
 use Rattle.protocol.specs.Ranges.{wellFormed}
-use Rattle.protocol.specs.Slot.{exchangeIn, exchangeStep, stepAt, stepOf, offerAllowed, slotOf}
+use Rattle.protocol.specs.Slot.{exchangeIn, exchangeStep, stepAt, stepOf, offerAllowed, passes, slotOf}
 use Rattle.protocol.specs.declared.Awaited.{Awaited}
 use Rattle.protocol.specs.declared.Sending.{Sending}
 use Rattle.protocol.specs.declared.Phase.the-variants.{Exchanging}
@@ -11,7 +11,7 @@ use Rattle.protocol.specs.declared.Endpoint.{Endpoint}
 use Rattle.protocol.specs.declared.Drive.{Drive}
 
 module _ (e : Endpoint) (heard : ℕ) (g : Drive) (w : wellFormed e ≡ true) where
-  pub slot-passes : offerAllowed e g (e .phase) ≡ true → slotOf e heard g .state ≡ stepOf e heard g .state
+  pub slot-passes : offerAllowed e g (e .phase) ≡ true → slotOf e heard g ≡ passes (stepOf e heard g)
   unfolding slotOf
   slot-passes a = rw (w, a)
 

@@ -11,7 +11,7 @@ use Rattle.protocol.specs.Sent.{Sent}
 use Rattle.protocol.specs.Exchange.{Turn, firstExchange, turn}
 use Rattle.protocol.specs.Opened.{freshLine}
 use Rattle.protocol.specs.Ranges.{wellFormed}
-use Rattle.protocol.specs.Slot.{exchanging, concluded, started, clocked, opens, opensHearing, stepBy, exchangeStep, stepAt, stepOf, offerAllowed, passes, slotOf}
+use Rattle.protocol.specs.Slot.{exchanging, concluded, started, clocked, opens, opensHearing, stepBy, exchangeStep, stepAt, stepOf, slotOf}
 use Rattle.protocol.specs.Call.{endAt, sentAt}
 use Rattle.protocol.specs.declared.Exchange.{Exchange}
 use Rattle.protocol.specs.declared.Fate.{Fate}
@@ -19,20 +19,9 @@ use Rattle.protocol.specs.declared.Fate.the-variants.{Stays, OpensHearin
 use Rattle.protocol.specs.declared.Phase.the-variants.{Refused}
 use Rattle.protocol.specs.declared.Endpoint.{Endpoint}
 use Rattle.protocol.specs.declared.Drive.{Drive}
+use Rattle.protocol.proofs.SlotPasses.{exchange-passes}
 use Rattle.protocol.proofs.Segments.{Said, Says, Silent, Runs}
 use Rattle.protocol.proofs.Core.{Core, Talks, Over, Talking, talking, core, coreBy}
-
--- a slot of a well-formed end that is given no unit out of range passes
-pub slot-passes : (e : Endpoint) (heard : ℕ) (g : Drive) → wellFormed e ≡ true → offerAllowed e g (e .phase) ≡ true
-    → slotOf e heard g ≡ passes (stepOf e heard g)
-unfolding slotOf
-slot-passes e heard g w o = rw (w, o)
-
--- a slot of an end in the exchange
-exchange-passes : (b : Book) (t : ℕ) (x : Exchange) (heard : ℕ) (g : Drive) → wellFormed (exchanging b t x) ≡ true
-    → slotOf (exchanging b t x) heard g .state ≡ stepBy b t (turn b x (kindOf heard)) g (turn b x (kindOf heard) .fate) .state
-unfolding stepAt exchangeStep offerAllowed
-exchange-passes b t x heard g w = ap (λ q. q .state) (slot-passes (exchanging b t x) heard g w refl)
 
 -- what an end is that concludes in slot t
 abbrev pub concludes : Book → ℕ → Drive → Fate → Exchange → Endpoint
@@ -60,10 +49,10 @@ module _ (b : Book) (heard : ℕ → ℕ) (given : ℕ → Drive) where
   module _ (kept : (t : ℕ) → wellFormed (end t) ≡ true) where
     passes-on : (t : ℕ) (x : Exchange) → end t ≡ exchanging b t x
         → end (suc t) ≡ stepBy b t (turn b x (kindOf (heard t))) (given t) (turn b x (kindOf (heard t)) .fate) .state
-    unfolding endAt
+    unfolding endAt exchangeStep
     passes-on t x e =
         ap (λ u. slotOf u (heard t) (given t) .state) e
-        ∙ exchange-passes b t x (heard t) (given t) (subst (λ u. wellFormed u ≡ true) e (kept t))
+        ∙ exchange-passes (exchanging b t x) (heard t) (given t) (subst (λ u. wellFormed u ≡ true) e (kept t)) refl
 
     sends-on : (t : ℕ) (x : Exchange) → end t ≡ exchanging b t x
         → sentAt (started b) heard given t ≡ stepBy b t (turn b x (kindOf (heard t))) (given t) (turn b x (kindOf (heard t)) .fate) .sent
