@@ -6,7 +6,7 @@ use Prim.Native.Nat.{ℕ, _≤_}
 use lib.Dec.{eqb, ltb, lit≤}
 use lib.ListN.{length}
 use borrow.Author.Tests.{ne-eqb, eqb-true}
-use Rattle.ground.proofs.Test.{by-test}
+use Rattle.ground.proofs.Test.{either-way}
 use Rattle.book.specs.declared.Entry.{Entry}
 use Rattle.book.specs.declared.Book.{Book}
 use Rattle.book.specs.declared.BookRead.{BookRead}
@@ -28,33 +28,33 @@ Numbered n = n ≤ lastNumber
 start-numbered : (s : List ℕ) → Numbered (startNo s)
 unfolding startNo
 start-numbered s =
-    by-test Numbered (ltb (length s) headerLength) (lit≤ tt)
-    (by-test Numbered (not (isMark s)) (lit≤ tt)
-    (by-test Numbered (not (eqb (wordAt s versionAt) bookVersion)) (lit≤ tt) (lit≤ tt)))
+    either-way Numbered (ltb (length s) headerLength) (lit≤ tt)
+    (either-way Numbered (not (isMark s)) (lit≤ tt)
+    (either-way Numbered (not (eqb (wordAt s versionAt) bookVersion)) (lit≤ tt) (lit≤ tt)))
 
 values-numbered : (b : Book) → Numbered (valuesNo b)
 unfolding valuesNo
 values-numbered b =
-    by-test Numbered (ltb answering (b .role)) (lit≤ tt)
-    (by-test Numbered (not (isMask (b .mask))) (lit≤ tt)
-    (by-test Numbered (ltb (b .limit) leastLimit) (lit≤ tt)
-    (by-test Numbered (wrongCount (b .role) (b .n)) (lit≤ tt) (lit≤ tt))))
+    either-way Numbered (ltb answering (b .role)) (lit≤ tt)
+    (either-way Numbered (not (isMask (b .mask))) (lit≤ tt)
+    (either-way Numbered (ltb (b .limit) leastLimit) (lit≤ tt)
+    (either-way Numbered (wrongCount (b .role) (b .n)) (lit≤ tt) (lit≤ tt))))
 
 length-numbered : (s : List ℕ) (n : ℕ) → Numbered (lengthNo s n)
 unfolding lengthNo
 length-numbered s n =
-    by-test Numbered (ltb (length s) (entryStart n)) (lit≤ tt) (by-test Numbered (ltb (entryStart n) (length s)) (lit≤ tt) (lit≤ tt))
+    either-way Numbered (ltb (length s) (entryStart n)) (lit≤ tt) (either-way Numbered (ltb (entryStart n) (length s)) (lit≤ tt) (lit≤ tt))
 
 entry-numbered : (mask : ℕ) (earlier : List Entry) (e : Entry) → Numbered (entryNo mask earlier e)
 unfolding entryNo
 entry-numbered mask earlier e =
-    by-test Numbered (not (isForm (e .form) && isWidth (e .form) (e .w))) (lit≤ tt)
-    (by-test Numbered (isBarred mask (e .form)) (lit≤ tt)
-    (by-test Numbered (seenIn earlier e) (lit≤ tt) (lit≤ tt)))
+    either-way Numbered (not (isForm (e .form) && isWidth (e .form) (e .w))) (lit≤ tt)
+    (either-way Numbered (isBarred mask (e .form)) (lit≤ tt)
+    (either-way Numbered (seenIn earlier e) (lit≤ tt) (lit≤ tt)))
 
 -- of two checks one after the other
 else-numbered : (a b : ℕ) → Numbered a → Numbered b → Numbered (orElse a b)
-else-numbered a b p q = by-test Numbered (eqb a 0) q p
+else-numbered a b p q = either-way Numbered (eqb a 0) q p
 
 each-numbered : (mask : ℕ) (earlier es : List Entry) → Numbered (eachNo mask earlier es)
 unfolding eachNo

@@ -2,7 +2,7 @@
 use mathlib.Core.Path.{refl}
 use Prim.Native.Nat.{ℕ, _<_}
 use lib.Dec.{lit<}
-use Rattle.ground.proofs.Test.{by-test}
+use Rattle.ground.proofs.Test.{either-way}
 use Rattle.channel.specs.Bytes.{sgvi, sgp, sgr, sgss, sgidle, sgdis}
 use Rattle.channel.specs.Kinds.{like, isDl, isDh, isSd, kindNumber}
 use Rattle.channel.specs.Forms.{encoded, decoded, encodedWord}
@@ -17,19 +17,19 @@ Numbered n = n < 14
 kind-numbered : (b : ℕ) → Numbered (kindNumber b)
 unfolding kindNumber
 kind-numbered b =
-    by-test Numbered (isDl b) (lit< tt)
-    (by-test Numbered (isDh b) (lit< tt)
-    (by-test Numbered (isSd b) (lit< tt)
-    (by-test Numbered (like sgvi b) (lit< tt)
-    (by-test Numbered (like (sgp 0) b) (lit< tt)
-    (by-test Numbered (like (sgp 1) b) (lit< tt)
-    (by-test Numbered (like (sgp 2) b) (lit< tt)
-    (by-test Numbered (like (sgp 3) b) (lit< tt)
-    (by-test Numbered (like (sgp 4) b) (lit< tt)
-    (by-test Numbered (like sgr b) (lit< tt)
-    (by-test Numbered (like sgss b) (lit< tt)
-    (by-test Numbered (like sgidle b) (lit< tt)
-    (by-test Numbered (like sgdis b) (lit< tt) (lit< tt)))))))))))))
+    either-way Numbered (isDl b) (lit< tt)
+    (either-way Numbered (isDh b) (lit< tt)
+    (either-way Numbered (isSd b) (lit< tt)
+    (either-way Numbered (like sgvi b) (lit< tt)
+    (either-way Numbered (like (sgp 0) b) (lit< tt)
+    (either-way Numbered (like (sgp 1) b) (lit< tt)
+    (either-way Numbered (like (sgp 2) b) (lit< tt)
+    (either-way Numbered (like (sgp 3) b) (lit< tt)
+    (either-way Numbered (like (sgp 4) b) (lit< tt)
+    (either-way Numbered (like sgr b) (lit< tt)
+    (either-way Numbered (like sgss b) (lit< tt)
+    (either-way Numbered (like sgidle b) (lit< tt)
+    (either-way Numbered (like sgdis b) (lit< tt) (lit< tt)))))))))))))
 
 pub channel-answered : ChannelAnswered
 unfolding encoded encodedWord decoded

@@ -29,7 +29,11 @@ same-flag true false t = absurd t
 same-flag false true t = absurd t
 same-flag false false t = refl
 
--- what holds of both holds of the one that a test picks
-pub by-test : {A : Type 0} (P : A → Type 0) (b : Bool) {x y : A} → P x → P y → P (cond b x y)
-by-test P true p q = p
-by-test P false p q = q
+-- what holds of either outcome, each from the test's equation, holds of the outcome
+pub by-test : {A : Type 0} (P : A → Type 0) (b : Bool) {x y : A} → (b ≡ true → P x) → (b ≡ false → P y) → P (cond b x y)
+by-test P true f g = f refl
+by-test P false f g = g refl
+
+-- what holds of both outcomes holds of the one that a test picks
+pub either-way : {A : Type 0} (P : A → Type 0) (b : Bool) {x y : A} → P x → P y → P (cond b x y)
+either-way P b p q = by-test P b (λ t. p) (λ t. q)

@@ -5,7 +5,7 @@ use Prim.Native.Nat.{ℕ, _+_, _<_, _≤_}
 use native.Mathlib.Omega.{arith}
 use lib.Dec.{eqb, ltb}
 use borrow.Author.Tests.{lt-ltb, ltb-true, eqb-true, ne-eqb, le-ltb}
-use Rattle.ground.proofs.Test.{both-left, both-right}
+use Rattle.ground.proofs.Test.{by-test, both-left, both-right}
 use Rattle.book.specs.declared.Book.{Book}
 use Rattle.channel.specs.declared.kind.Kind.{Kind}
 use Rattle.channel.specs.declared.kind.Kind.the-variants.{Sgvi, Sgp, Dl, Dh, Sd, Other}
@@ -15,7 +15,7 @@ use Rattle.protocol.specs.Ranges.{behind}
 use Rattle.protocol.specs.declared.Awaited.{Awaited}
 use Rattle.protocol.specs.declared.Awaited.the-variants.{Run, Group, Nothing}
 use Rattle.protocol.specs.declared.Hearing.{Hearing}
-use Rattle.protocol.proofs.Cases.{by-test, both}
+use Rattle.protocol.proofs.Cases.{both}
 
 -- P holds wherever a byte may lead from what is awaited
 abbrev Leads : (Awaited → Type 0) → Awaited → Type 0

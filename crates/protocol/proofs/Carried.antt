@@ -5,10 +5,10 @@ use Prim.Native.Nat.{ℕ, _<_}
 use native.Mathlib.Omega.{arith}
 use lib.Dec.{eqb, leb}
 use Rattle.ground.specs.Digits.{val}
+use Rattle.ground.proofs.Test.{by-test}
 use Rattle.channel.specs.declared.kind.Kind.{Kind}
 use Rattle.channel.specs.declared.kind.Kind.the-variants.{Sgvi, Sgp, Dl, Dh, Sd, Other}
 use Rattle.channel.specs.Kinds.{kindNumber, nibbleIn, kindFrom, kindOf}
-use Rattle.protocol.proofs.Cases.{by-test}
 
 abbrev pub Carries : ℕ → Kind → Type 0
 Carries byte Sgvi = Unit {0}

@@ -1,11 +1,6 @@
--- A test taken apart with its equation, and tests put together. Assumes nothing.
+-- Tests put together and taken apart. Assumes nothing.
 use mathlib.Core.Path.{_≡_, refl}
-use mathlib.Core.Bool.{Bool, true, false, cond, not, _&&_, _||_}
-
--- what holds of either outcome, each from the test's equation, holds of the outcome
-pub by-test : {A : Type 0} (P : A → Type 0) (b : Bool) {x y : A} → (b ≡ true → P x) → (b ≡ false → P y) → P (cond b x y)
-by-test P true f g = f refl
-by-test P false f g = g refl
+use mathlib.Core.Bool.{Bool, true, false, not, _&&_, _||_}
 
 pub both : {a b : Bool} → a ≡ true → b ≡ true → (a && b) ≡ true
 both p q = simp (p, q)

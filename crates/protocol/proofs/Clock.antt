@@ -4,6 +4,7 @@ use mathlib.Core.Bool.{true}
 use Prim.Native.Nat.{ℕ, zero, suc, _+_}
 use native.Mathlib.Omega.{arith}
 use lib.Dec.{ltb}
+use Rattle.ground.proofs.Test.{by-test}
 use Rattle.book.specs.declared.Book.{Book}
 use Rattle.book.specs.Kept.{bookOk}
 use Rattle.channel.specs.Kinds.{kindOf}
@@ -20,7 +21,6 @@ use Rattle.protocol.specs.declared.Phase.{Phase}
 use Rattle.protocol.specs.declared.Phase.the-variants.{Exchanging, Open, Refused}
 use Rattle.protocol.specs.declared.Endpoint.{Endpoint}
 use Rattle.protocol.specs.declared.Drive.{Drive}
-use Rattle.protocol.proofs.Cases.{by-test}
 use Rattle.protocol.proofs.SlotPasses.{exchange-passes}
 use Rattle.protocol.proofs.ConcludedStays.{open-slot, refused-slot}
 use Rattle.protocol.proofs.StateKept.{call-kept}

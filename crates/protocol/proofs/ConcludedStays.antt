@@ -5,6 +5,7 @@ use mathlib.Core.Bool.{false}
 use Prim.Native.Nat.{ℕ, zero, suc, _+_, _-_, _≤_}
 use native.Mathlib.Nat.{add-zero, add-suc}
 use native.Mathlib.Omega.{arith}
+use Rattle.ground.proofs.Test.{by-test}
 use Rattle.channel.specs.Bytes.{sdidle}
 use Rattle.protocol.specs.Exchange.{entryOf}
 use Rattle.protocol.specs.Sent.{Alone}
@@ -20,7 +21,6 @@ use Rattle.protocol.specs.declared.Endpoint.{Endpoint}
 use Rattle.protocol.specs.declared.Drive.{Drive}
 use Rattle.protocol.specs.declared.Delivered.the-variants as delivered
 use Rattle.protocol.specs.declared.SlotAnswer.{SlotAnswer}
-use Rattle.protocol.proofs.Cases.{by-test}
 
 is-open : (e : Endpoint) {slot version i : ℕ} {line : Line} → e .phase ≡ Open slot version i line → StaysOpen e slot version i e
 is-open e {line} q =

@@ -9,7 +9,7 @@ use native.Mathlib.Omega.{arith}
 use lib.Dec.{eqb, leb}
 use lib.ListN.{getD}
 use borrow.Author.Tests.{lt-ltb, le-ltb, lt-leb, le-leb}
-use Rattle.ground.proofs.Test.{by-test}
+use Rattle.ground.proofs.Test.{either-way}
 use Rattle.book.specs.declared.Entry.{Entry}
 use Rattle.book.specs.Book.{paramsOf}
 use Rattle.channel.specs.declared.kind.Kind.{Kind}
@@ -100,7 +100,7 @@ module _ (mask limit n : ℕ) (entries : List Entry) (v i0 p0 p1 p2 p3 p4 : ℕ)
   unfolding slots
   replies-said i k =
       let t : Turn = turnWith (bookA mask limit n entries) (settled (hearing Nothing (i0 ∷ theirs)) v (Parameters i)) (hearing Nothing (i0 ∷ theirs)) in
-      by-test (λ (f : Fate). coreBy t f .out ≡ Says (parameterSent (bookA mask limit n entries) replies i)) (leb (allParameterBytes (bookA mask limit n entries)) (i + 1))
+      either-way (λ (f : Fate). coreBy t f .out ≡ Says (parameterSent (bookA mask limit n entries) replies i)) (leb (allParameterBytes (bookA mask limit n entries)) (i + 1))
       (ap (λ q. q .out) (opened-by t found)) refl
 
 -- the originator compares when the last parameter has come

@@ -9,6 +9,7 @@ use native.Mathlib.Nat.{add-zero}
 use native.Mathlib.Omega.{arith}
 use lib.ListN.{set}
 use borrow.Author.Tests.{eqb-true}
+use Rattle.ground.proofs.Test.{by-test}
 use Rattle.book.specs.declared.Book.{Book}
 use Rattle.book.specs.Kept.{bookOk}
 use Rattle.channel.specs.declared.kind.Kind.{Kind}
@@ -27,7 +28,6 @@ use Rattle.protocol.specs.declared.Phase.{Phase}
 use Rattle.protocol.specs.declared.Phase.the-variants.{Exchanging, Open, Refused}
 use Rattle.protocol.specs.declared.Endpoint.{Endpoint}
 use Rattle.protocol.specs.declared.Drive.{Drive}
-use Rattle.protocol.proofs.Cases.{by-test}
 use Rattle.protocol.proofs.Carried.{kind-carries}
 use Rattle.protocol.proofs.SlotPasses.{exchange-passes}
 use Rattle.protocol.proofs.ConcludedStays.{open-slot, refused-slot}

@@ -3,6 +3,7 @@ use mathlib.Core.Path.{_≡_, refl}
 use mathlib.Core.List.{List}
 use Prim.Native.Nat.{ℕ, _+_}
 use lib.Dec.{ltb}
+use Rattle.ground.proofs.Test.{by-test}
 use Rattle.book.specs.declared.Book.{Book}
 use Rattle.channel.specs.declared.kind.Kind.{Kind}
 use Rattle.channel.specs.Kinds.{kindOf}
@@ -18,7 +19,6 @@ use Rattle.protocol.specs.declared.Fate.{Fate}
 use Rattle.protocol.specs.declared.Fate.the-variants.{Stays, OpensHearing, OpensSending, Refuses}
 use Rattle.protocol.specs.declared.Endpoint.{Endpoint}
 use Rattle.protocol.specs.declared.Drive.{Drive}
-use Rattle.protocol.proofs.Cases.{by-test}
 
 -- choosing and sending a byte changes nothing of the hearing
 by-hearing : (b : Book) (y : Exchange) (f : Fate) → turnBy b y f .exchange .hearing ≡ y .hearing

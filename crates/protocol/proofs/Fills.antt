@@ -9,7 +9,7 @@ use native.Mathlib.Omega.{arith}
 use lib.Dec.{ltb}
 use lib.ListN.{length, getD, length-append, List·getD-append}
 use lib.Seq.{getD-append-add}
-use Rattle.ground.proofs.Test.{by-test}
+use Rattle.ground.proofs.Test.{either-way}
 use Rattle.channel.specs.declared.unit.Form.{Form}
 use Rattle.channel.specs.declared.unit.Form.the-variants.{Six, SevenV1, SevenV2, Eight}
 use Rattle.channel.specs.Forms.{unitsOf}
@@ -51,7 +51,7 @@ ToldOf g w = Told (w .taken) (g .offer) (w .sent)
 opening-told : (s : Shape) (o : Outbound) (g : Drive) → ToldOf g (writesOpening s o g)
 unfolding writesOpening
 opening-told s o g =
-    by-test (ToldOf g) (ltb (o .opening) openingSd) (quiet-told false (g .offer) _ refl refl) (quiet-told false (g .offer) _ refl refl)
+    either-way (ToldOf g) (ltb (o .opening) openingSd) (quiet-told false (g .offer) _ refl refl) (quiet-told false (g .offer) _ refl refl)
 
 offer-told : (w : ℕ) (o : Outbound) (g : Drive) (x : Offer) → g .offer ≡ x → ToldOf g (writesOffer w o g x)
 offer-told w o g offer.Nothing e = quiet-told false (g .offer) _ refl refl
@@ -61,7 +61,7 @@ offer-told w o g (offer.Unit u) e =
 due-told : (w : ℕ) (o : Outbound) (g : Drive) (h : Half) → ToldOf g (writesDue w o g h)
 due-told w o g (Holds high) = quiet-told false (g .offer) _ refl refl
 due-told w o g Empty =
-    by-test (ToldOf g) (held (g .flag) (o .bk1) (o .bk2)) (quiet-told false (g .offer) _ refl refl) (offer-told w o g (g .offer) refl)
+    either-way (ToldOf g) (held (g .flag) (o .bk1) (o .bk2)) (quiet-told false (g .offer) _ refl refl) (offer-told w o g (g .offer) refl)
 
 fill-told : (f : Form) → pairForm f ≡ true → (o : Offer) → Told false o (Unit f (unitsOf f - 1))
 fill-told f p o =
@@ -89,7 +89,7 @@ data-told (shape.Unit f) o g = unit-told f o g (g .offer) refl
 
 writing-told : (s : Shape) (o : Outbound) (g : Drive) → ToldOf g (writing s o g)
 unfolding writing
-writing-told s o g = by-test (ToldOf g) (ltb (o .opening) (openingBytes s)) (opening-told s o g) (data-told s o g)
+writing-told s o g = either-way (ToldOf g) (ltb (o .opening) (openingBytes s)) (opening-told s o g) (data-told s o g)
 
 phase-told : (e : Endpoint) (heard : ℕ) (g : Drive) (p : Phase) → Told (stepAt e heard g p .taken) (g .offer) (stepAt e heard g p .sent)
 unfolding stepAt openStep outcomeAt

@@ -9,6 +9,7 @@ use native.Mathlib.Numerals.{add-one}
 use lib.Dec.{eqb, ltb}
 use lib.ListN.{set}
 use borrow.Author.Tests.{eqb-true}
+use Rattle.ground.proofs.Test.{by-test}
 use Rattle.book.specs.declared.Book.{Book}
 use Rattle.channel.specs.declared.kind.Kind.{Kind}
 use Rattle.channel.specs.declared.kind.Kind.the-variants.{Sgvi, Sgp, Dl, Dh, Sd, Other}
@@ -18,7 +19,7 @@ use Rattle.protocol.specs.Collecting.{noNibbles, ofRun, dlDue, dhDue, la
 use Rattle.protocol.specs.declared.Awaited.{Awaited}
 use Rattle.protocol.specs.declared.Awaited.the-variants.{Run, Group, Nothing}
 use Rattle.protocol.specs.declared.Hearing.{Hearing}
-use Rattle.protocol.proofs.Cases.{by-test, either}
+use Rattle.protocol.proofs.Cases.{either}
 use Rattle.protocol.proofs.Carried.{Carries, kind-carries}
 
 -- the nibbles of n bytes received from slot t on, zeros past them

@@ -20,7 +20,7 @@ use Rattle.protocol.specs.declared.Hearing.{Hearing}
 use Rattle.protocol.specs.declared.Exchange.{Exchange}
 use Rattle.protocol.specs.declared.Sending.the-variants.{Idle, Hail, Mask}
 use Rattle.protocol.proofs.Segments.{Says}
-use Rattle.ground.proofs.Test.{by-test}
+use Rattle.ground.proofs.Test.{either-way}
 use Rattle.protocol.proofs.Core.{Core, Talks, core, heard-as, run-grows, run-breaks, hearing, talk, noValues}
 
 abbrev pub bookO : ℕ → ℕ → ℕ → List Entry → Book
@@ -133,9 +133,9 @@ module _ (mask limit n : ℕ) (entries : List Entry) where
   -- a group of an identifier in hand, whatever is heard: as long as fewer than six slots have passed it is not whole
   ask-hears : (i c : ℕ) (nibbles : List ℕ) (k : Kind) → i < 5 → c ≤ i → InHand (suc i) (hear (bookO mask limit n entries) (groupO c nibbles) k)
   unfolding hearAt inGroup
-  ask-hears i c ns (Dl x) h l = by-test (InHand (suc i)) (dlDue c) (inHand (c + 1) _ (omega arith)) (inHand 1 _ (omega arith))
+  ask-hears i c ns (Dl x) h l = either-way (InHand (suc i)) (dlDue c) (inHand (c + 1) _ (omega arith)) (inHand 1 _ (omega arith))
   ask-hears i c ns (Dh x) h l =
-      rw (ne-eqb c 5 (λ e. omega arith)) (by-test (InHand (suc i)) (dhDue c) (inHand (c + 1) _ (omega arith)) (inHand 0 _ (omega arith)))
+      rw (ne-eqb c 5 (λ e. omega arith)) (either-way (InHand (suc i)) (dhDue c) (inHand (c + 1) _ (omega arith)) (inHand 0 _ (omega arith)))
   ask-hears i c ns Sgvi h l = inHand 0 _ (omega arith)
   ask-hears i c ns (Sgp j) h l = inHand 0 _ (omega arith)
   ask-hears i c ns (Sd s bk) h l = inHand 0 _ (omega arith)

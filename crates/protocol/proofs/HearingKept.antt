@@ -10,7 +10,7 @@ use lib.ListN.{set, drop}
 use lib.Seq.{drop-set-lt}
 use borrow.Author.Tests.{lt-ltb, le-leb, ltb-true, leb-true, ltb-false, eqb-true}
 use Rattle.ground.specs.Digits.{allBelow}
-use Rattle.ground.proofs.Test.{both-left, both-right}
+use Rattle.ground.proofs.Test.{by-test, both-left, both-right}
 use Rattle.book.specs.declared.Book.{Book}
 use Rattle.channel.specs.declared.kind.Kind.{Kind}
 use Rattle.channel.specs.declared.kind.Kind.the-variants.{Sgvi, Sgp, Dl, Dh, Sd, Other}
@@ -21,7 +21,7 @@ use Rattle.protocol.specs.Ranges.{awaitedIn, inHand, nibblesIn, valuesIn
 use Rattle.protocol.specs.declared.Awaited.{Awaited}
 use Rattle.protocol.specs.declared.Awaited.the-variants.{Run, Group, Nothing}
 use Rattle.protocol.specs.declared.Hearing.{Hearing}
-use Rattle.protocol.proofs.Cases.{by-test, both, either}
+use Rattle.protocol.proofs.Cases.{both, either}
 use Rattle.protocol.proofs.Carried.{Carries, kind-carries, nibble-below}
 
 -- numbers below n stay so where a place is set to one more such number, and from the next place on

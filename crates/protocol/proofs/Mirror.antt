@@ -10,6 +10,7 @@ use borrow.Author.Tests.{lt-ltb, ltb-true, ltb-false}
 use native.Mathlib.Decide.{decLt}
 use lib.Dec.{eqb, ltb}
 use Rattle.ground.specs.Digits.{val}
+use Rattle.ground.proofs.Test.{by-test}
 use Rattle.channel.specs.declared.byte.Leads.{Leads}
 use Rattle.channel.specs.declared.kind.Kind.the-variants.{Sd}
 use Rattle.channel.specs.declared.unit.Form.{Form}
@@ -35,7 +36,6 @@ use Rattle.protocol.specs.declared.Delivered.the-variants as delivered
 use Rattle.protocol.specs.declared.Offer.{Offer}
 use Rattle.protocol.specs.declared.Offer.the-variants as offer
 use Rattle.protocol.specs.declared.Drive.{Drive}
-use Rattle.protocol.proofs.Cases.{by-test}
 
 -- what of one byte sent may arrive
 abbrev pub ArrivesOne : Sent → ℕ → Type 0

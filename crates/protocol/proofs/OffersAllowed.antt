@@ -6,7 +6,7 @@ use mathlib.Core.List.{List}
 use Prim.Native.Nat.{ℕ, zero, suc, _+_, _<_}
 use lib.Dec.{ltb}
 use borrow.Author.Tests.{ltb-true}
-use Rattle.ground.proofs.Test.{by-test, both-left, both-right}
+use Rattle.ground.proofs.Test.{either-way, both-left, both-right}
 use Rattle.book.specs.declared.Book.{Book}
 use Rattle.book.specs.Kept.{bookOk}
 use Rattle.channel.specs.Kinds.{kindOf}
@@ -40,7 +40,7 @@ offers-nothing-allowed e heard given q t = nothing-allowed (endAt e heard given 
 -- the book stays
 clocked-book : (b : Book) (slot : ℕ) (x : Exchange) → clocked b slot x .book ≡ b
 unfolding clocked
-clocked-book b slot x = by-test (λ (e : Endpoint). e .book ≡ b) (ltb (slot + 1) (b .limit)) refl refl
+clocked-book b slot x = either-way (λ (e : Endpoint). e .book ≡ b) (ltb (slot + 1) (b .limit)) refl refl
 
 by-book : (b : Book) (slot : ℕ) (t : Turn) (g : Drive) (f : Fate) → stepBy b slot t g f .state .book ≡ b
 by-book b slot t g Stays = clocked-book b slot (t .exchange)
@@ -59,8 +59,8 @@ step-book e heard g (Refused number slot) = refl
 slot-book : (e : Endpoint) (heard : ℕ) (g : Drive) → slotOf e heard g .state .book ≡ e .book
 unfolding slotOf
 slot-book e heard g =
-    by-test (λ (r : SlotAnswer). r .state .book ≡ e .book) (wellFormed e)
-    (by-test (λ (r : SlotAnswer). r .state .book ≡ e .book) (offerAllowed e g (e .phase)) (step-book e heard g (e .phase)) refl) refl
+    either-way (λ (r : SlotAnswer). r .state .book ≡ e .book) (wellFormed e)
+    (either-way (λ (r : SlotAnswer). r .state .book ≡ e .book) (offerAllowed e g (e .phase)) (step-book e heard g (e .phase)) refl) refl
 
 book-stays : (b : Book) (heard : ℕ → ℕ) (given : ℕ → Drive) (t : ℕ) → endAt (started b) heard given t .book ≡ b
 unfolding endAt started

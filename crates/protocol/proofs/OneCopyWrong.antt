@@ -8,7 +8,7 @@ use native.Mathlib.Omega.{arith}
 use lib.Dec.{eqb}
 use Rattle.ground.specs.Digits.{val}
 use Rattle.ground.proofs.Each.{upTo, each, each-eq}
-use Rattle.ground.proofs.Test.{by-test}
+use Rattle.ground.proofs.Test.{either-way}
 use Rattle.channel.specs.Bytes.{laid, B, sgidle, dlByte, dhByte}
 use Rattle.channel.specs.Kinds.{nibbleIn}
 use Rattle.channel.specs.Forms.{unitByte, arrivesAs}
@@ -51,8 +51,8 @@ dh-marks v = rw (dh-low v) (each-eq (λ v. marks (nibbleInverted (dhByte v))) (�
 
 part-marks : (place v : ℕ) → marks (partDamaged place (groupByte place v)) ≡ marks (groupByte place v)
 part-marks place v =
-    by-test (λ b. marks b ≡ marks (groupByte place v)) (inSecondCopy place)
-    (by-test (λ b. marks (nibbleInverted b) ≡ marks b) (eqb (place % 2) 0) (dl-marks v) (dh-marks v))
+    either-way (λ b. marks b ≡ marks (groupByte place v)) (inSecondCopy place)
+    (either-way (λ b. marks (nibbleInverted b) ≡ marks b) (eqb (place % 2) 0) (dl-marks v) (dh-marks v))
     (ap (λ h. h % 8) (b8-half (groupByte place v)))
 
 group-damaged : (v : ℕ) → GroupArrives v (λ place. partDamaged place (groupByte place v)) 0
@@ -109,7 +109,7 @@ pub b8-wrong : (s : Sent) → isEight s ≡ false → damaged s % 2 ≡ inverted
 unfolding damaged byteSent
 b8-wrong (Alone b) e = b8-b8 b
 b8-wrong (Part place v) e =
-    by-test (λ b. b % 2 ≡ inverted (groupByte place v % 2)) (inSecondCopy place) (nibble-b8 (groupByte place v)) (b8-b8 (groupByte place v))
+    either-way (λ b. b % 2 ≡ inverted (groupByte place v % 2)) (inSecondCopy place) (nibble-b8 (groupByte place v)) (b8-b8 (groupByte place v))
 b8-wrong (Unit Six u) e = b8-b8 (unitByte Six u)
 b8-wrong (Unit SevenV1 u) e = b8-b8 (unitByte SevenV1 u)
 b8-wrong (Unit SevenV2 u) e = b8-b8 (unitByte SevenV2 u)

@@ -9,7 +9,7 @@ use native.Mathlib.Omega.{arith}
 use lib.Dec.{eqb}
 use lib.ListN.{length, getD}
 use borrow.Author.Tests.{ne-eqb, eqb-true}
-use Rattle.ground.proofs.Test.{by-test}
+use Rattle.ground.proofs.Test.{either-way}
 use Rattle.book.specs.declared.Entry.{Entry}
 use Rattle.book.specs.declared.Book.{Book}
 use Rattle.book.specs.Book.{paramsOf}
@@ -66,8 +66,8 @@ no-word : (e : Entry) (version : ℕ) → eqb (e .form) 0 ≡ false → NoWord (
 unfolding shapeOf
 no-word e version t =
     rw t
-    (by-test NoWord (eqb (e .form) 6) (unit-shape Six)
-    (by-test NoWord (eqb (e .form) 7) (by-test NoWord (eqb version 1) (unit-shape SevenV1) (unit-shape SevenV2)) (unit-shape Eight)))
+    (either-way NoWord (eqb (e .form) 6) (unit-shape Six)
+    (either-way NoWord (eqb (e .form) 7) (either-way NoWord (eqb version 1) (unit-shape SevenV1) (unit-shape SevenV2)) (unit-shape Eight)))
 
 -- a word length is at most 8
 small-word : (e : Entry) (mask version : ℕ) → KeptEntry mask e → (w : ℕ) → shapeOf e version ≡ shape.Word w → w ≤ 8

@@ -5,7 +5,7 @@ use mathlib.Core.List.{List, []}
 use Prim.Native.Nat.{ℕ, _%_}
 use native.Mathlib.Omega.{arith}
 use lib.Dec.{ltb}
-use Rattle.ground.proofs.Test.{by-test}
+use Rattle.ground.proofs.Test.{either-way}
 use Rattle.book.specs.declared.Book.{Book}
 use Rattle.channel.specs.declared.unit.Form.the-variants.{Six, SevenV1, SevenV2, Eight}
 use Rattle.channel.specs.Kinds.{kindOf}
@@ -37,7 +37,7 @@ pub record Quiet (s : Step) : Type 0 where
 -- what the exchange sends is no unit
 parameter-quiet : (b : Book) (values : List ℕ) (i : ℕ) → fill (parameterSent b values i) ≡ []
 unfolding parameterSent
-parameter-quiet b values i = by-test (λ (s : Sent). fill s ≡ []) (ltb (i % parameterBytes b) (parameterLead b)) refl refl
+parameter-quiet b values i = either-way (λ (s : Sent). fill s ≡ []) (ltb (i % parameterBytes b) (parameterLead b)) refl refl
 
 sent-quiet : (b : Book) (y : Exchange) (s : Sending) → fill (sentAs b y s) ≡ []
 unfolding sentAs

@@ -5,6 +5,7 @@ use Prim.Native.Nat.{ℕ, _≤_}
 use native.Mathlib.Omega.{arith}
 use lib.Dec.{eqb, leb}
 use borrow.Author.Tests.{lt-ltb, le-leb}
+use Rattle.ground.proofs.Test.{by-test}
 use Rattle.channel.specs.declared.kind.Kind.{Kind}
 use Rattle.channel.specs.declared.kind.Kind.the-variants.{Sgvi, Sgp, Dl, Dh, Sd, Other}
 use Rattle.channel.specs.declared.unit.Form.{Form}
@@ -17,7 +18,7 @@ use Rattle.protocol.specs.declared.Half.the-variants.{Empty}
 use Rattle.protocol.specs.declared.Shape.{Shape}
 use Rattle.protocol.specs.declared.Shape.the-variants as shape
 use Rattle.protocol.specs.declared.Inbound.{Inbound}
-use Rattle.protocol.proofs.Cases.{by-test, both, or-right}
+use Rattle.protocol.proofs.Cases.{both, or-right}
 use Rattle.protocol.proofs.Carried.{Carries, kind-carries, nibble-below}
 
 abbrev Kept : Shape → Reading → Type 0

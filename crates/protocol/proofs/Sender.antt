@@ -7,7 +7,7 @@ use native.Mathlib.Numerals.{add-one}
 use native.Mathlib.Omega.{arith}
 use lib.Dec.{ltb, leb, eqb}
 use borrow.Author.Tests.{lt-ltb, le-ltb, lt-leb, le-leb}
-use Rattle.ground.proofs.Test.{by-test}
+use Rattle.ground.proofs.Test.{either-way}
 use Rattle.book.specs.declared.Entry.{Entry}
 use Rattle.book.specs.declared.Book.{Book}
 use Rattle.book.specs.Book.{paramsOf}
@@ -39,11 +39,11 @@ after-next false item = refl
 
 beyond-at : (b : Book) (h : Hearing) (k : Kind) (a : Awaited) → h .awaited ≡ a → hasIdentifier a ≡ true → Beyond (hearAt b h k a)
 unfolding hearAt inRun inGroup
-beyond-at b h k (Run item count) q e = by-test (λ (a : Awaited). hasIdentifier a ≡ true) (ofRun item k) (by-test (λ (a : Awaited). hasIdentifier a ≡ true) (ltb (count + 1) (runLength b item)) {x = Run item (count + 1)} {y = Group item 0} e e) e
-beyond-at b h (Dl x) (Group item count) q e = by-test (λ (h : Hearing). hasIdentifier (h .awaited) ≡ true) (dlDue count) e e
+beyond-at b h k (Run item count) q e = either-way (λ (a : Awaited). hasIdentifier a ≡ true) (ofRun item k) (either-way (λ (a : Awaited). hasIdentifier a ≡ true) (ltb (count + 1) (runLength b item)) {x = Run item (count + 1)} {y = Group item 0} e e) e
+beyond-at b h (Dl x) (Group item count) q e = either-way (λ (h : Hearing). hasIdentifier (h .awaited) ≡ true) (dlDue count) e e
 beyond-at b h (Dh x) (Group item count) q e =
-    by-test (λ (h : Hearing). hasIdentifier (h .awaited) ≡ true) (dhDue count) e
-    (by-test (λ (h : Hearing). hasIdentifier (h .awaited) ≡ true) (lastDue count) (after-next (ltb item 5) item) e)
+    either-way (λ (h : Hearing). hasIdentifier (h .awaited) ≡ true) (dhDue count) e
+    (either-way (λ (h : Hearing). hasIdentifier (h .awaited) ≡ true) (lastDue count) (after-next (ltb item 5) item) e)
 beyond-at b h Sgvi (Group item count) q e = e
 beyond-at b h (Sgp j) (Group item count) q e = e
 beyond-at b h (Sd s bk) (Group item count) q e = e
@@ -119,9 +119,9 @@ module _ (mask limit n : ℕ) (entries : List Entry) (v : ℕ) (h g : Hearing) (
       let b = bookO mask limit n entries in
       let t : Turn = turnWith b (settled h v (Parameters i)) g in
       rw (heard-as b (settled h v (Parameters i)) k g q)
-      (by-test (λ (f : Fate). coreBy t f .out ≡ Says (parameterSent b (paramsOf (entryOf b 0)) i))
+      (either-way (λ (f : Fate). coreBy t f .out ≡ Says (parameterSent b (paramsOf (entryOf b 0)) i))
       (leb (allParameterBytes b) (i + 1) && hasAll (g .awaited))
-      (by-test (λ (f : Fate). coreBy t f .out ≡ Says (parameterSent b (paramsOf (entryOf b 0)) i)) (hasParams (entryOf b 0) (heardParams g)) refl refl)
+      (either-way (λ (f : Fate). coreBy t f .out ≡ Says (parameterSent b (paramsOf (entryOf b 0)) i)) (hasParams (entryOf b 0) (heardParams g)) refl refl)
       refl)
 
 -- The same, whatever is heard.

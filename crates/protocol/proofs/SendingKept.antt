@@ -5,7 +5,7 @@ use Prim.Native.Nat.{ℕ, _+_, _<_, _≤_, min}
 use native.Mathlib.Omega.{arith}
 use lib.Dec.{eqb, ltb, leb}
 use borrow.Author.Tests.{lt-ltb, le-leb, ltb-true, leb-true, ltb-false, leb-false, le-ltb, eqb-true, not-true}
-use Rattle.ground.proofs.Test.{both-left, both-right}
+use Rattle.ground.proofs.Test.{by-test, both-left, both-right}
 use Rattle.book.specs.declared.Book.{Book}
 use Rattle.protocol.specs.Lengths.{identifierRun, parameterLead, groupLength, allParameterBytes}
 use Rattle.protocol.specs.Collecting.{awaitsHail, hasIdentifier, hasAll}
@@ -16,7 +16,7 @@ use Rattle.protocol.specs.declared.Awaited.the-variants.{Run, Group, Not
 use Rattle.protocol.specs.declared.Sending.{Sending}
 use Rattle.protocol.specs.declared.Sending.the-variants.{Idle, Hail, Mask, Parameters, Done}
 use Rattle.protocol.specs.declared.Exchange.{Exchange}
-use Rattle.protocol.proofs.Cases.{by-test, both, negated, second-fails}
+use Rattle.protocol.proofs.Cases.{both, negated, second-fails}
 use Rattle.protocol.proofs.AwaitedMoves.{Moved}
 
 -- what an answerer has chosen to send, by what it awaits

@@ -7,7 +7,7 @@ use native.Mathlib.Omega.{arith}
 use lib.Dec.{eqb, ltb}
 use borrow.Author.Tests.{lt-ltb, ltb-true, ltb-false, eq-eqb}
 use Rattle.ground.specs.Digits.{allBelow}
-use Rattle.ground.proofs.Test.{both-left, both-right}
+use Rattle.ground.proofs.Test.{by-test, both-left, both-right}
 use Rattle.book.specs.declared.Book.{Book}
 use Rattle.book.specs.Kept.{bookOk}
 use Rattle.channel.specs.Kinds.{kindOf}
@@ -33,7 +33,7 @@ use Rattle.protocol.specs.declared.Phase.the-variants.{Exchanging, Open,
 use Rattle.protocol.specs.declared.Endpoint.{Endpoint}
 use Rattle.protocol.specs.declared.Drive.{Drive}
 use Rattle.protocol.specs.declared.SlotAnswer.{SlotAnswer}
-use Rattle.protocol.proofs.Cases.{by-test, both, or-left}
+use Rattle.protocol.proofs.Cases.{both, or-left}
 use Rattle.protocol.proofs.BookFacts.{limit-least, has-entry}
 use Rattle.protocol.proofs.TurnKept.{ExchangeIn, FateIn, turn-kept}
 use Rattle.protocol.proofs.WritingKept.{Fits, writing-kept, fresh-outbound, first-outbound}

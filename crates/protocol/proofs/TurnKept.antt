@@ -7,7 +7,7 @@ use native.Mathlib.Omega.{arith}
 use lib.Dec.{eqb, leb}
 use lib.ListN.{getD}
 use borrow.Author.Tests.{lt-ltb, leb-false, eq-eqb}
-use Rattle.ground.proofs.Test.{both-left, both-right}
+use Rattle.ground.proofs.Test.{by-test, both-left, both-right}
 use Rattle.book.specs.declared.Entry.{Entry}
 use Rattle.book.specs.declared.Book.{Book}
 use Rattle.book.specs.Book.{noEntry}
@@ -25,7 +25,7 @@ use Rattle.protocol.specs.declared.Match.{Match}
 use Rattle.protocol.specs.declared.Match.the-variants as match
 use Rattle.protocol.specs.declared.Fate.{Fate}
 use Rattle.protocol.specs.declared.Fate.the-variants.{Stays, OpensHearing, OpensSending, Refuses}
-use Rattle.protocol.proofs.Cases.{by-test, first-fails}
+use Rattle.protocol.proofs.Cases.{first-fails}
 use Rattle.protocol.proofs.AwaitedMoves.{Moved, moves}
 use Rattle.protocol.proofs.HearingKept.{HearingIn, hear-kept}
 use Rattle.protocol.proofs.SendingKept.{Answers, Originates, answering-chosen, originating-chosen, answering-advanced, originating-advanced}

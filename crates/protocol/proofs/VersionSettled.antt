@@ -7,12 +7,12 @@ use native.Mathlib.Omega.{arith}
 use lib.Dec.{eqb}
 use borrow.Author.Tests.{le-leb}
 use Rattle.ground.specs.Digits.{bit}
-use Rattle.ground.proofs.Test.{both-left}
+use Rattle.ground.proofs.Test.{by-test, both-left}
 use Rattle.book.specs.declared.Book.{Book}
 use Rattle.channel.specs.Versions.{bothHave, highestUpTo, highest}
 use Rattle.protocol.specs.Exchange.{identifier}
 use Rattle.protocol.specs.Ranges.{isVersion}
-use Rattle.protocol.proofs.Cases.{by-test, both}
+use Rattle.protocol.proofs.Cases.{both}
 
 module _ (b : Book) (theirs : ℕ) where
   Settled : ℕ → Type 0

@@ -5,7 +5,7 @@ use Prim.Native.Nat.{ℕ, _+_, _*_, _/_, _^_, _<_, _≤_}
 use native.Mathlib.Omega.{arith}
 use lib.Dec.{ltb, leb}
 use borrow.Author.Tests.{lt-ltb, le-leb, ltb-true, leb-true, ltb-false}
-use Rattle.ground.proofs.Test.{both-left, both-right}
+use Rattle.ground.proofs.Test.{by-test, both-left, both-right}
 use Rattle.channel.specs.declared.unit.Form.{Form}
 use Rattle.channel.specs.Forms.{wordFits}
 use Rattle.protocol.specs.Opened.{hasUnit, isWord, pairForm, hasPair, openingSd, openingBytes, freshLine, Writing, writesSd, writesOpening, held, writesOffer, writesDue, writesUnit, writesData, writing}
@@ -18,7 +18,7 @@ use Rattle.protocol.specs.declared.Outbound.{Outbound}
 use Rattle.protocol.specs.declared.Offer.{Offer}
 use Rattle.protocol.specs.declared.Offer.the-variants as offer
 use Rattle.protocol.specs.declared.Drive.{Drive}
-use Rattle.protocol.proofs.Cases.{by-test, both, or-right}
+use Rattle.protocol.proofs.Cases.{both, or-right}
 
 -- no nibble is due
 due-empty : (s : Shape) (opening : ℕ) → dueIn s opening Empty ≡ true
