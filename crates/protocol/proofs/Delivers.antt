@@ -16,7 +16,7 @@ use Rattle.protocol.specs.declared.Offer.the-variants as offer
 use Rattle.protocol.specs.declared.Drive.{Drive}
 use Rattle.protocol.specs.declared.Delivered.the-variants as delivered
 use Rattle.protocol.specs.declared.Endpoint.{Endpoint}
-use Rattle.protocol.proofs.Mirror.{ArrivesOne}
+use Rattle.protocol.proofs.MirrorKept.{ArrivesOne}
 use Rattle.protocol.proofs.OpenRuns.{ins}
 use Rattle.protocol.proofs.Stream.{goes, comes, carriedIn, deliveredIn, all-delivered, all-shown}
 

@@ -42,6 +42,10 @@ pub mod DamagedCalls
 pub mod OffersAllowed
 pub mod PairExists
 pub mod PairForEachDelay
+pub mod MirrorKept
+pub mod WordsMirrored
+pub mod UnitsRead
+pub mod UnitsMirrored
 pub mod Mirror
 pub mod OpenRuns
 pub mod Stream

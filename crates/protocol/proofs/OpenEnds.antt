@@ -30,7 +30,8 @@ use Rattle.protocol.specs.declared.Outcome.the-variants as outcome
 use Rattle.protocol.specs.declared.Offer.the-variants as offer
 use Rattle.protocol.specs.declared.Delivered.the-variants as delivered
 use Rattle.protocol.specs.declared.Drive.{Drive}
-use Rattle.protocol.proofs.Mirror.{heard-sd, reads-sd}
+use Rattle.protocol.proofs.MirrorKept.{heard-sd}
+use Rattle.protocol.proofs.UnitsRead.{reads-sd}
 use Rattle.protocol.proofs.Quiet.{exchange-quiet, fresh-writes}
 use Rattle.protocol.proofs.OpenRuns.{outs, ins, open-run, run-sends, run-takes, run-delivers, run-allowed}
 use Rattle.protocol.proofs.Stream.{goes, comes}

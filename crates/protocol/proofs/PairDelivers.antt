@@ -40,7 +40,7 @@ use Rattle.protocol.proofs.BookFacts.{has-entry}
 use Rattle.protocol.proofs.Matching.{names-none}
 use Rattle.protocol.proofs.BothConclude.{profile-is, open-a, open-o, state-a, state-o, step-o, idled-o, last-exchange-a, last-exchange-o}
 use Rattle.protocol.proofs.PairConcludes.{by-roles}
-use Rattle.protocol.proofs.Mirror.{ArrivesOne}
+use Rattle.protocol.proofs.MirrorKept.{ArrivesOne}
 use Rattle.protocol.proofs.Stream.{goes}
 use Rattle.protocol.proofs.Delivers.{SendsFrom, ReadsFrom, delivers, signals-arrive}
 use Rattle.protocol.proofs.OpenEnds.{sends-after, reads-after-idle, sends-at-once, reads-after}

@@ -13,7 +13,9 @@ use Rattle.protocol.specs.declared.Outbound.{Outbound}
 use Rattle.protocol.specs.declared.Inbound.{Inbound}
 use Rattle.protocol.specs.declared.Offer.the-variants as offer
 use Rattle.protocol.specs.declared.Drive.{Drive}
-use Rattle.protocol.proofs.Mirror.{ArrivesOne, Kept, Units, Mirror, comesOut, mirror-step, mirror-fresh}
+use Rattle.protocol.proofs.MirrorKept.{ArrivesOne, Kept}
+use Rattle.protocol.proofs.UnitsMirrored.{Units}
+use Rattle.protocol.proofs.Mirror.{Mirror, comesOut, mirror-step, mirror-fresh}
 use Rattle.protocol.proofs.OpenRuns.{outs, ins}
 
 -- n slots after the first opening byte goes
