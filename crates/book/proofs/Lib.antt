@@ -2,7 +2,7 @@ mod Header
 mod Entries
 mod Loading
 mod NothingWrong
-mod Reply
+pub mod Reply
 mod Lookup
 mod KeptCheck
 pub mod Params

@@ -1,6 +1,5 @@
 -- The worked figures of the joined pair, and the sample of a run, by computation. Assumes nothing.
 use mathlib.Core.Path.{_≡_, refl}
-use mathlib.Core.Bool.{false}
 use mathlib.Core.List.{List, [], _∷_, _++_}
 use Prim.Native.Nat.{ℕ, zero, suc}
 use lib.ListN.{replicate}
@@ -8,22 +7,16 @@ use Rattle.book.specs.declared.Entry.{Entry}
 use Rattle.book.specs.declared.Book.{Book}
 use Rattle.book.specs.Book.{originating, answering, noEntry}
 use Rattle.channel.specs.Bytes.{sgvi}
-use Rattle.protocol.specs.Opened.{idleLeads, idleSignals}
+use Rattle.protocol.specs.Opened.{idleSignals}
 use Rattle.protocol.specs.Slot.{started, outcomeOf, slotOf}
-use Rattle.protocol.specs.Joined.{Joined, joined, joinedSlot}
+use Rattle.protocol.specs.Joined.{Joined, idle, joined, joinedSlot}
 use Rattle.protocol.specs.Votes.{awaitedBy}
 use Rattle.protocol.specs.Computing.{computing}
 use Rattle.protocol.specs.declared.Awaited.{Awaited}
 use Rattle.protocol.specs.declared.Awaited.the-variants.{Run, Group}
 use Rattle.protocol.specs.declared.Endpoint.{Endpoint}
-use Rattle.protocol.specs.declared.Drive.{Drive}
-use Rattle.protocol.specs.declared.Offer.the-variants as offer
 use Rattle.protocol.specs.declared.Outcome.{Outcome}
 use Rattle.protocol.specs.declared.Outcome.the-variants.{Open, Refused}
-
--- leads 0100, no break, no unit offered
-abbrev idle : Drive
-idle = record { leads = idleLeads; flag = false; offer = offer.Nothing }
 
 abbrev profile : Entry
 profile = record { p0 = 1; p1 = 2; p2 = 3; p3 = 4; p4 = 5; form = 7; w = 0 }

@@ -23,10 +23,12 @@ pub mod TurnKept
 pub mod WritingKept
 pub mod ReadingKept
 pub mod StateKept
+pub mod BookStays
 pub mod SlotPasses
 pub mod ConcludedStays
 pub mod Clock
 pub mod SlotReported
+pub mod EndsByLimit
 pub mod CallDetermined
 pub mod ExchangeHears
 pub mod GroupInHand

@@ -1,23 +1,19 @@
 -- When neither end is given an offer that 12 refuses: where nothing is offered, and where each unit offered is in the range of every entry
 -- of the end's book. Assumes nothing.
-use mathlib.Core.Path.{_≡_, refl, _∙_}
+use mathlib.Core.Path.{_≡_, refl}
 use mathlib.Core.Bool.{true, _&&_}
 use mathlib.Core.List.{List}
-use Prim.Native.Nat.{ℕ, zero, suc, _+_, _<_}
+use Prim.Native.Nat.{ℕ, _<_}
 use lib.Dec.{ltb}
 use borrow.Author.Tests.{ltb-true}
-use Rattle.ground.proofs.Test.{either-way, both-left, both-right}
+use Rattle.ground.proofs.Test.{both-left, both-right}
 use Rattle.book.specs.declared.Book.{Book}
 use Rattle.book.specs.Kept.{bookOk}
-use Rattle.channel.specs.Kinds.{kindOf}
-use Rattle.protocol.specs.Exchange.{entryOf, Turn, turn}
+use Rattle.protocol.specs.Exchange.{entryOf}
 use Rattle.protocol.specs.Opened.{shapeOf, hasUnit}
 use Rattle.protocol.specs.Ranges.{allZero, isVersion, outboundIn, inboundIn, phaseIn, wellFormed}
-use Rattle.protocol.specs.Slot.{exchangeIn, started, clocked, stepBy, exchangeStep, openStep, stepAt, offerFits, offerAllowed, slotOf}
+use Rattle.protocol.specs.Slot.{started, offerFits, offerAllowed}
 use Rattle.protocol.specs.Call.{endAt, Allowed, OffersNothing, OffersFit}
-use Rattle.protocol.specs.declared.Exchange.{Exchange}
-use Rattle.protocol.specs.declared.Fate.{Fate}
-use Rattle.protocol.specs.declared.Fate.the-variants.{Stays, OpensHearing, OpensSending, Refuses}
 use Rattle.protocol.specs.declared.Line.{Line}
 use Rattle.protocol.specs.declared.Offer.{Offer}
 use Rattle.protocol.specs.declared.Offer.the-variants as offer
@@ -25,8 +21,8 @@ use Rattle.protocol.specs.declared.Phase.{Phase}
 use Rattle.protocol.specs.declared.Phase.the-variants.{Exchanging, Open, Refused}
 use Rattle.protocol.specs.declared.Endpoint.{Endpoint}
 use Rattle.protocol.specs.declared.Drive.{Drive}
-use Rattle.protocol.specs.declared.SlotAnswer.{SlotAnswer}
 use Rattle.protocol.proofs.StateKept.{call-kept}
+use Rattle.protocol.proofs.BookStays.{book-stays}
 
 nothing-allowed : (e : Endpoint) (g : Drive) → g .offer ≡ offer.Nothing → (p : Phase) → offerAllowed e g p ≡ true
 unfolding offerAllowed
@@ -36,36 +32,6 @@ nothing-allowed e g q (Refused number slot) = refl
 
 pub offers-nothing-allowed : (e : Endpoint) (heard : ℕ → ℕ) (given : ℕ → Drive) → OffersNothing given → Allowed e heard given
 offers-nothing-allowed e heard given q t = nothing-allowed (endAt e heard given t) (given t) (q t) (endAt e heard given t .phase)
-
--- the book stays
-clocked-book : (b : Book) (slot : ℕ) (x : Exchange) → clocked b slot x .book ≡ b
-unfolding clocked
-clocked-book b slot x = either-way (λ (e : Endpoint). e .book ≡ b) (ltb (slot + 1) (b .limit)) refl refl
-
-by-book : (b : Book) (slot : ℕ) (t : Turn) (g : Drive) (f : Fate) → stepBy b slot t g f .state .book ≡ b
-by-book b slot t g Stays = clocked-book b slot (t .exchange)
-by-book b slot t g (OpensHearing i) = refl
-by-book b slot t g (OpensSending i) = refl
-by-book b slot t g (Refuses n) = refl
-
-step-book : (e : Endpoint) (heard : ℕ) (g : Drive) (p : Phase) → stepAt e heard g p .state .book ≡ e .book
-unfolding stepAt exchangeStep openStep
-step-book e heard g (Exchanging slot version a s) =
-    let t = turn (e .book) (exchangeIn e version a s) (kindOf heard) in
-    by-book (e .book) slot t g (t .fate)
-step-book e heard g (Open slot version i line) = refl
-step-book e heard g (Refused number slot) = refl
-
-slot-book : (e : Endpoint) (heard : ℕ) (g : Drive) → slotOf e heard g .state .book ≡ e .book
-unfolding slotOf
-slot-book e heard g =
-    either-way (λ (r : SlotAnswer). r .state .book ≡ e .book) (wellFormed e)
-    (either-way (λ (r : SlotAnswer). r .state .book ≡ e .book) (offerAllowed e g (e .phase)) (step-book e heard g (e .phase)) refl) refl
-
-book-stays : (b : Book) (heard : ℕ → ℕ) (given : ℕ → Drive) (t : ℕ) → endAt (started b) heard given t .book ≡ b
-unfolding endAt started
-book-stays b heard given zero = refl
-book-stays b heard given (suc t) = slot-book (endAt (started b) heard given t) (heard t) (given t) ∙ book-stays b heard given t
 
 -- an open end has opened on an entry of its book
 entry-in : (b : Book) (nibbles values : List ℕ) (slot version i : ℕ) (line : Line)

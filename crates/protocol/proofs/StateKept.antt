@@ -42,7 +42,7 @@ use Rattle.protocol.proofs.ReadingKept.{reading-kept, fresh-inbound}
 -- An end in the exchange.
 
 -- the parts of its range
-parts : (b : Book) (slot version : ℕ) (a : Awaited) (s : Sending) (nibbles values : List ℕ)
+pub parts : (b : Book) (slot version : ℕ) (a : Awaited) (s : Sending) (nibbles values : List ℕ)
     → phaseIn b nibbles values (Exchanging slot version a s) ≡ true
     → (ltb slot (b .limit) ≡ true)
     × ExchangeIn b (record { hearing = record { awaited = a; nibbles = nibbles; values = values }; version = version; sending = s })
@@ -159,7 +159,7 @@ book-in : (e : Endpoint) → wellFormed e ≡ true → bookOk (e .book) ≡ true
 unfolding wellFormed
 book-in e w = both-left (bookOk (e .book)) (phaseIn (e .book) (e .nibbles) (e .values) (e .phase)) w
 
-phase-in : (e : Endpoint) → wellFormed e ≡ true → phaseIn (e .book) (e .nibbles) (e .values) (e .phase) ≡ true
+pub phase-in : (e : Endpoint) → wellFormed e ≡ true → phaseIn (e .book) (e .nibbles) (e .values) (e .phase) ≡ true
 unfolding wellFormed
 phase-in e w = both-right (bookOk (e .book)) (phaseIn (e .book) (e .nibbles) (e .values) (e .phase)) w
 

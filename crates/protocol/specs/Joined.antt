@@ -1,10 +1,13 @@
 -- Two ends joined by a channel that does no damage, as a program runs them. Assumes nothing.
+use mathlib.Core.Bool.{false}
 use mathlib.Core.List.{List, [], _∷_, _++_}
 use Prim.Native.Nat.{ℕ}
 use lib.ListN.{getD, drop, replicate}
 use Rattle.channel.specs.Bytes.{sgidle}
+use Rattle.protocol.specs.Opened.{idleLeads}
 use Rattle.protocol.specs.Slot.{slotOf}
 use Rattle.protocol.specs.declared.Endpoint.{Endpoint}
+use Rattle.protocol.specs.declared.Offer.the-variants as offer
 use Rattle.protocol.specs.declared.Drive.{Drive}
 use Rattle.protocol.specs.declared.Reply.{Reply}
 use Rattle.protocol.specs.declared.Reply.the-variants.{Refused, Passed}
@@ -15,6 +18,10 @@ pub record Joined : Type 0 where
   pub a : Endpoint
   pub toO : List ℕ
   pub toA : List ℕ
+
+-- what each end is given: leads 0100, no break, no unit offered
+abbrev pub idle : Drive
+idle = record { leads = idleLeads; flag = false; offer = offer.Nothing }
 
 -- the byte of a slot that has passed
 abbrev pub byteOf : Reply → ℕ

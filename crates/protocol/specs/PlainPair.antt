@@ -1,12 +1,10 @@
 -- For every delay two books that may be joined, and what their ends may be given. Assumes nothing.
-use mathlib.Core.Bool.{false}
 use mathlib.Core.List.{_∷_}
 use Prim.Native.Nat.{ℕ, _+_, _*_}
 use lib.ListN.{replicate}
 use Rattle.book.specs.declared.Book.{Book}
 use Rattle.book.specs.Book.{noEntry}
-use Rattle.protocol.specs.Opened.{idleLeads}
-use Rattle.protocol.specs.declared.Offer.the-variants as offer
+use Rattle.protocol.specs.Joined.{idle}
 use Rattle.protocol.specs.declared.Drive.{Drive}
 
 -- one entry, form 6, its five parameters 0, and the least limit that the delay leaves
@@ -20,6 +18,5 @@ plainBook d role =
       entries = record { p0 = 0; p1 = 0; p2 = 0; p3 = 0; p4 = 0; form = 6; w = 0 } ∷ replicate 7 noEntry;
     }
 
--- leads 0100, no break, no unit offered
 abbrev pub plainDrive : ℕ → Drive
-plainDrive t = record { leads = idleLeads; flag = false; offer = offer.Nothing }
+plainDrive t = idle

@@ -1,0 +1,5 @@
+pub mod Rings
+pub mod UntilConcluded
+pub mod BooksJoined
+pub mod RunsTrue
+pub mod OneReply

@@ -1,0 +1,4 @@
+pub mod Running
+pub mod Rings
+pub mod Join
+pub mod RunsTrue

@@ -1,0 +1,3 @@
+// Two ends joined by a channel that does no damage.
+pub mod join;
+mod running;
