@@ -15,6 +15,7 @@ use Rattle.protocol.specs.declared.Reply.the-variants.{Passed}
 use Rattle.protocol.specs.declared.SlotAnswer.{SlotAnswer}
 use Rattle.protocol.proofs.SlotPasses.{slot-passes}
 use Rattle.protocol.proofs.StateKept.{slot-kept, call-kept}
+use Rattle.protocol.proofs.ConcludedStays.{open-stays, refused-stays, refused-idles, refused-ignores}
 use Rattle.protocol.proofs.SlotReported.{opened-in, refused-in}
 use Rattle.protocol.proofs.EachVote.{no-other-value}
 use Rattle.protocol.proofs.CallDetermined.{call-determined, sent-determined, delivered-determined, taken-determined}
@@ -50,6 +51,14 @@ module _ (b : Book) (ok : bookOk b ≡ true) (heard : ℕ → ℕ) (given : ℕ 
         replies = slot-replies;
         openedIn = λ t version slot profile signals. opened-in b ok heard given t;
         refusedIn = λ t number slot. refused-in b ok heard given t;
+        concluded =
+            λ t u later.
+            record {
+              opened = λ slot version entry line q. open-stays (started b) heard given t u later q;
+              refused = λ number slot q. refused-stays (started b) heard given t u later q;
+              idles = λ number slot q. refused-idles (started b) heard given t u later q;
+              ignores = λ number slot q. refused-ignores (started b) heard given t u later q;
+            };
         voted = no-other-value b ok heard given;
         determined =
             λ heard′ given′ t h g.

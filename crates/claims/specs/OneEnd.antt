@@ -5,13 +5,16 @@ use mathlib.Core.Logic.{_⊎_}
 use Prim.Native.Nat.{ℕ, suc, _≤_}
 use Rattle.book.specs.declared.Entry.{Entry}
 use Rattle.book.specs.declared.Book.{Book}
-use Rattle.channel.specs.Bytes.{byte}
-use Rattle.protocol.specs.Sent.{byteSent}
+use Rattle.channel.specs.Bytes.{byte, sdidle}
+use Rattle.protocol.specs.Sent.{Alone, byteSent}
 use Rattle.protocol.specs.Ranges.{wellFormed}
 use Rattle.protocol.specs.Slot.{started, stepOf, offerAllowed, passes, refuses, slotOf}
 use Rattle.protocol.specs.Call.{endAt, sentAt, deliveredAt, takenAt, standsAt}
-use Rattle.protocol.specs.Concluding.{LeavesIn}
+use Rattle.protocol.specs.Concluding.{LeavesIn, StaysOpen}
 use Rattle.protocol.specs.Votes.{Votes}
+use Rattle.protocol.specs.declared.Line.{Line}
+use Rattle.protocol.specs.declared.Phase.the-variants as phase
+use Rattle.protocol.specs.declared.Delivered.the-variants.{Nothing}
 use Rattle.protocol.specs.declared.Endpoint.{Endpoint}
 use Rattle.protocol.specs.declared.Drive.{Drive}
 use Rattle.protocol.specs.declared.Signals.{Signals}
@@ -33,6 +36,16 @@ pub record SameSlot (e : Endpoint) (heard heard′ : ℕ → ℕ) (given given�
   pub taken : takenAt e heard given t ≡ takenAt e heard′ given′ t
   pub after : endAt e heard given (suc t) ≡ endAt e heard′ given′ (suc t)
 
+-- an end that has concluded before slot t, in a later slot u: only an open end's line changes, and a refused end sends Sdidle and ignores
+-- what comes
+pub record StaysConcluded (e : Endpoint) (heard : ℕ → ℕ) (given : ℕ → Drive) (t u : ℕ) : Type 0 where
+  pub opened : (slot version entry : ℕ) (line : Line) → endAt e heard given t .phase ≡ phase.Open slot version entry line
+      → StaysOpen (endAt e heard given t) slot version entry (endAt e heard given u)
+  pub refused : (number slot : ℕ) → endAt e heard given t .phase ≡ phase.Refused number slot → endAt e heard given u ≡ endAt e heard given t
+  pub idles : (number slot : ℕ) → endAt e heard given t .phase ≡ phase.Refused number slot → sentAt e heard given u ≡ Alone sdidle
+  pub ignores : (number slot : ℕ) → endAt e heard given t .phase ≡ phase.Refused number slot
+      → (deliveredAt e heard given u ≡ Nothing) × (takenAt e heard given u ≡ false)
+
 -- a call from an accepted book, whatever it hears and is given
 pub record CallHolds (b : Book) (heard : ℕ → ℕ) (given : ℕ → Drive) : Type 0 where
   pub kept : (t : ℕ) → wellFormed (endAt (started b) heard given t) ≡ true
@@ -44,6 +57,8 @@ pub record CallHolds (b : Book) (heard : ℕ → ℕ) (given : ℕ → Drive) : 
   pub openedIn : (t version slot : ℕ) (profile : Entry) (signals : Signals) → standsAt (started b) heard given t ≡ Open version profile slot signals
       → LeavesIn (started b) heard given slot
   pub refusedIn : (t number slot : ℕ) → standsAt (started b) heard given t ≡ Refused number slot → LeavesIn (started b) heard given slot
+  -- what has concluded stays so
+  pub concluded : (t u : ℕ) → t ≤ u → StaysConcluded (started b) heard given t u
   -- a value that is voted is the majority of six bytes that came one after the other: no copy of a dropped group counts
   pub voted : (u : ℕ)
       → (endAt (started b) heard given (suc u) .values ≡ endAt (started b) heard given u .values) ⊎ ((item : ℕ) × Votes (started b) heard given u item)
