@@ -2,9 +2,9 @@
 use mathlib.Core.Path.{_≡_, ap}
 use mathlib.Core.Bool.{true, false, cond}
 use mathlib.Core.List.{List}
-use Prim.Native.Nat.{ℕ, _+_, _≤_, _<_}
+use Prim.Native.Nat.{ℕ, _+_, _<_}
 use lib.ListN.{getD, replicate}
-use borrow.Author.Tests.{lt-ltb, le-ltb}
+use borrow.Author.Tests.{lt-ltb}
 use Rattle.book.specs.declared.Book.{Book}
 use Rattle.channel.specs.declared.kind.Kind.{Kind}
 use Rattle.channel.specs.Versions.{highest}
@@ -12,7 +12,7 @@ use Rattle.protocol.specs.Lengths.{runLength}
 use Rattle.protocol.specs.Collecting.{ofRun, noNibbles, inRun, inGroup, hear, hearAt}
 use Rattle.protocol.specs.Exchange.{Turn, identifier, settles, acted, fateHeard, chosenOriginating, chosenAnswering, sentAs, advanced, fateSent, sends, turnBy, turn}
 use Rattle.protocol.specs.declared.Awaited.{Awaited}
-use Rattle.protocol.specs.declared.Awaited.the-variants.{Run, Group}
+use Rattle.protocol.specs.declared.Awaited.the-variants.{Run}
 use Rattle.protocol.specs.declared.Hearing.{Hearing}
 use Rattle.protocol.specs.declared.Exchange.{Exchange}
 use Rattle.protocol.specs.declared.Sending.{Sending}
@@ -77,11 +77,6 @@ module _ (b : Book) (item count : ℕ) (values : List ℕ) (version : ℕ) (s : 
       → core b (Talks (talk (Run item count) values version s)) k ≡ coreWith b (talk (Run item count) values version s) (hearing (Run item (count + 1)) values)
   unfolding inRun hearAt
   run-grows e l = heard-as b (talk (Run item count) values version s) k _ (rw (e, lt-ltb (count + 1) (runLength b item) l))
-
-  pub run-comes : ofRun item k ≡ true → runLength b item ≤ count + 1
-      → core b (Talks (talk (Run item count) values version s)) k ≡ coreWith b (talk (Run item count) values version s) (hearing (Group item 0) values)
-  unfolding inRun hearAt
-  run-comes e l = heard-as b (talk (Run item count) values version s) k _ (rw (e, le-ltb (count + 1) (runLength b item) l))
 
   pub run-breaks : ofRun item k ≡ false
       → core b (Talks (talk (Run item count) values version s)) k ≡ coreWith b (talk (Run item count) values version s) (hearing (Run item 0) values)
