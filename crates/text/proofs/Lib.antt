@@ -1,0 +1,4 @@
+mod Writing
+pub mod Joined
+pub mod Figures
+pub mod OneReply
