@@ -7,16 +7,17 @@ use native.Mathlib.Nat.{div-div-eq-div-mul, div-eq-of-lt}
 use native.Mathlib.Omega.{arith}
 use lib.Dec.{ltb}
 use borrow.Author.Tests.{ltb-true}
+use Rattle.text.specs.Ascii.{ascii}
 use Rattle.text.specs.Numerals.{digit, placeOf, decimalOf, hexOf}
 
-pub figures : (decimalOf 0 ≡ 48 ∷ [])
-    × (decimalOf 7 ≡ 55 ∷ [])
-    × (decimalOf 10 ≡ 49 ∷ 48 ∷ [])
-    × (decimalOf 424 ≡ 52 ∷ 50 ∷ 52 ∷ [])
-    × (decimalOf 65535 ≡ 54 ∷ 53 ∷ 53 ∷ 51 ∷ 53 ∷ [])
-    × (hexOf 0 ≡ 48 ∷ 48 ∷ [])
-    × (hexOf 165 ≡ 65 ∷ 53 ∷ [])
-    × (hexOf 255 ≡ 70 ∷ 70 ∷ [])
+pub figures : (decimalOf 0 ≡ ascii "0")
+    × (decimalOf 7 ≡ ascii "7")
+    × (decimalOf 10 ≡ ascii "10")
+    × (decimalOf 424 ≡ ascii "424")
+    × (decimalOf 65535 ≡ ascii "65535")
+    × (hexOf 0x00 ≡ ascii "00")
+    × (hexOf 0xA5 ≡ ascii "A5")
+    × (hexOf 0xFF ≡ ascii "FF")
 unfolding decimalOf hexOf
 figures = (refl, refl, refl, refl, refl, refl, refl, refl)
 
