@@ -1,4 +1,5 @@
 mod Writing
 pub mod Joined
+pub mod Lengths
 pub mod Figures
 pub mod OneReply

@@ -6,6 +6,7 @@ use Rattle.text.proofs.push.Reads as push
 use Rattle.text.proofs.word.Reads as word
 use Rattle.text.proofs.decimal.Reads as decimal
 use Rattle.text.proofs.hex.Reads as hex
+use Rattle.text.proofs.parameters.Reads as parameters
 
 pub empty-one : (a : _) (r s : _) (x y : _) → empty.Post tt a r x → empty.Post tt a s y → r ≡ s
 empty-one a r s x y p q = one-reply _ p q
@@ -21,3 +22,6 @@ decimal-one a r s x y p q = one-reply _ p q
 
 pub hex-one : (a : _) (r s : _) (x y : _) → hex.Post tt a r x → hex.Post tt a s y → r ≡ s
 hex-one a r s x y p q = one-reply _ p q
+
+pub parameters-one : (a : _) (r s : _) (x y : _) → parameters.Post tt a r x → parameters.Post tt a s y → r ≡ s
+parameters-one a r s x y p q = one-reply _ p q

@@ -1,8 +1,9 @@
--- Numbers as they are written. Assumes nothing.
+-- Numbers and profiles as they are written. Assumes nothing.
 use mathlib.Core.Bool.{cond}
 use mathlib.Core.List.{List, [], _∷_, _++_}
 use Prim.Native.Nat.{ℕ, _+_, _/_, _%_}
 use lib.Dec.{ltb}
+use Rattle.book.specs.declared.Entry.{Entry}
 
 abbrev pub digit : ℕ → ℕ
 digit d = 48 + d
@@ -22,3 +23,7 @@ hexDigit d = cond (ltb d 10) (48 + d) (55 + d)
 -- a byte as two upper-case hex digits
 unfoldable pub hexOf : ℕ → List ℕ
 hexOf b = hexDigit (b / 16) ∷ hexDigit (b % 16) ∷ []
+
+-- the five parameters of a profile in upper-case hex
+unfoldable pub parametersOf : Entry → List ℕ
+parametersOf p = hexOf (p .p0) ++ hexOf (p .p1) ++ hexOf (p .p2) ++ hexOf (p .p3) ++ hexOf (p .p4)

@@ -1,9 +1,10 @@
-// A line of text, built by value.
+// A short text, built by value.
+use book::Entry;
 ghost use mathlib.Core.Path.{_≡_};
 ghost use mathlib.Core.List.{[]};
 ghost use Prim.Native.Nat.{_<_};
 ghost use Rattle.text.specs.Text.{text, pushed, appended};
-ghost use Rattle.text.specs.Numerals.{digit, placeOf, decimalOf, hexDigit, hexOf};
+ghost use Rattle.text.specs.Numerals.{digit, placeOf, decimalOf, hexDigit, hexOf, parametersOf};
 
 const ROOM: usize = 64;
 
@@ -94,4 +95,11 @@ pub fn hex(t: Text, b: u8) -> Text
     ensures { λ r. ⌜ r ≡ appended t (hexOf b) ⌝ }
 {
     push(push(t, hex_digit(b / 16)), hex_digit(b % 16))
+}
+
+// The five parameters of a profile, each as two hex digits.
+pub fn parameters(t: Text, p: Entry) -> Text
+    ensures { λ r. ⌜ r ≡ appended t (parametersOf p) ⌝ }
+{
+    hex(hex(hex(hex(hex(t, p.p0), p.p1), p.p2), p.p3), p.p4)
 }
