@@ -1,0 +1,6 @@
+mod Slots
+mod Filling
+pub mod LineLength
+mod Telling
+mod Saying
+pub mod OneReply

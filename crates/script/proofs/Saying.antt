@@ -1,0 +1,101 @@
+-- What a script says, by its parts: a text alone, or the lines of its slots. Assumes nothing.
+use mathlib.Core.Path.{_≡_, refl, ap, sym, _∙_, subst}
+use mathlib.Core.Bool.{Bool, true, false, _||_, true≢false}
+use mathlib.Core.List.{List, [], append-nil}
+use Prim.Native.Nat.{ℕ, _+_, _-_, _≤_, min}
+use native.Mathlib.Nat.{min-le-right}
+use native.Mathlib.Omega.{arith}
+use lib.Dec.{ltb}
+use lib.ListN.{length, take, drop, length-append}
+use lib.Seq.{paste}
+use borrow.Author.Tests.{ltb-false}
+use Rattle.book.specs.declared.Verdict.{Verdict}
+use Rattle.book.specs.Reading.{readBook}
+use Rattle.protocol.specs.declared.Start.{Start}
+use Rattle.protocol.specs.Slot.{startOf}
+use Rattle.text.specs.declared.Text.{Text}
+use Rattle.text.specs.Text.{text}
+use Rattle.text.specs.Ascii.{ascii}
+use Rattle.script.specs.Input.{mostBytes, bookLength, bookIn, slotsAt, slotsIn, slotsFault, scriptFault}
+use Rattle.script.specs.Output.{bookRefused, saysFrom, scriptSays, over}
+use Rattle.script.proofs.LineLength.{decimal-most}
+use Rattle.script.proofs.Filling.{SoFar, begin, go-on, finish-buffer, finish-count}
+
+pub text-short : (xs : List ℕ) {t : Text} → t ≡ text xs → t .length ≤ 64
+unfolding text
+text-short xs e = subst (λ (t : Text). t .length ≤ 64) (sym e) (min-le-right (length xs) 64)
+
+-- a text is all that is said
+pub said-alone : {whole : List ℕ} (xs out : List ℕ) → whole ≡ xs → length xs ≤ 64 → {t : Text} → t ≡ text xs
+    → {r : ℕ} → r ≡ 0 + min (t .length) (length out - 0)
+    → {after : List ℕ} → after ≡ paste out 0 (t .bytes) (min (t .length) (length out - 0))
+    → (r ≡ min (length whole) (length out)) × (after ≡ over whole out)
+said-alone {whole} xs out e fits et er eb =
+    let f = go-on xs [] fits (subst (λ (l : List ℕ). SoFar whole out l out 0) (e ∙ sym (append-nil xs)) (begin whole out)) et er eb in
+    (finish-count f, finish-buffer f)
+
+-- what is said is w
+pub said-as : {whole w : List ℕ} (out : List ℕ) → whole ≡ w → {r : ℕ} → r ≡ min (length w) (length out) → {after : List ℕ} → after ≡ over w out
+    → (r ≡ min (length whole) (length out)) × (after ≡ over whole out)
+said-as out e er eb =
+    (er ∙ ap (λ (l : List ℕ). min (length l) (length out)) (sym e), eb ∙ ap (λ (l : List ℕ). over l out) (sym e))
+
+pub refusal-fits : (number : ℕ) → length (bookRefused number) ≤ 64
+unfolding bookRefused
+refusal-fits number = simp length-append (omega (arith, decimal-most number))
+
+or-left : (a b : Bool) → (a || b) ≡ false → a ≡ false
+or-left true b e = absurd (true≢false e)
+or-left false b e = refl
+
+or-right : (a b : Bool) → (a || b) ≡ false → b ≡ false
+or-right true b e = absurd (true≢false e)
+or-right false b e = e
+
+-- a script whose test f found no fault
+module _ (s : List ℕ) {f : Bool} (test : f ≡ scriptFault s) (ok : f ≡ false) where
+  pub record Fine : Type 0 where
+    pub most : length s ≤ mostBytes
+    pub two : 2 ≤ length s
+    pub book : slotsAt s ≤ length s
+    pub slots : slotsFault (slotsIn s) ≡ false
+
+  pub fine : Fine
+  unfolding scriptFault
+  fine =
+      let a : Bool = ltb mostBytes (length s) in
+      let b : Bool = ltb (length s) 2 in
+      let c : Bool = ltb (length s) (slotsAt s) in
+      let d : Bool = slotsFault (slotsIn s) in
+      let e = sym test ∙ ok in
+      let e2 = or-right a (b || (c || d)) e in
+      let e3 = or-right b (c || d) e2 in
+      record {
+        most = ltb-false mostBytes (length s) (or-left a (b || (c || d)) e);
+        two = ltb-false (length s) 2 (or-left b (c || d) e2);
+        book = ltb-false (length s) (slotsAt s) (or-left c d e3);
+        slots = or-right c d e3;
+      }
+
+  module _ (from : ℕ) (at : from ≡ slotsAt s) where
+    pub inside : from ≤ length s
+    inside = omega (arith, fine .book)
+
+    pub slots-fine : slotsFault (drop from s) ≡ false
+    slots-fine = ap (λ (n : ℕ). slotsFault (drop n s)) at ∙ fine .slots
+
+    pub started : {b : Start} → b ≡ startOf (readBook (take (from - 2) (drop 2 s))) → {v : Verdict} → b .verdict ≡ v
+        → scriptSays s ≡ saysFrom (drop from s) (b .state) v
+    unfolding scriptSays
+    started {b} eb {v} ev =
+        let k : from - 2 ≡ bookLength s = omega arith in
+        let is : b ≡ startOf (readBook (bookIn s)) = eb ∙ ap (λ (n : ℕ). startOf (readBook (take n (drop 2 s)))) k in
+        rw (sym test ∙ ok)
+        (ap (λ (b : Start). saysFrom (slotsIn s) (b .state) (b .verdict)) (sym is)
+        ∙ ap (saysFrom (slotsIn s) (b .state)) ev
+        ∙ ap (λ (n : ℕ). saysFrom (drop n s) (b .state) v) (sym at))
+
+-- a script at fault
+pub at-fault : (s : List ℕ) {f : Bool} → f ≡ scriptFault s → f ≡ true → scriptSays s ≡ ascii "input refused\n"
+unfolding scriptSays
+at-fault s test t = rw (sym test ∙ t)

@@ -1,0 +1,97 @@
+-- `script::run` meets its contract. Assumes nothing.
+use borrow.Author.Needs.{needs}
+use Rattle.script.proofs.Saying.{text-short, said-alone, fine, inside, slots-fine, started, at-fault, said-as, refusal-fits}
+use Rattle.script.proofs.run.Statement.{statement}
+use Rattle.script.proofs.run.Tie as tie
+
+fault-requires : tie.Need-fault-requires
+fault-requires c κs = search needs
+
+input-refused-requires : tie.Need-input-refused-requires
+input-refused-requires c κs = search needs
+
+put-requires : tie.Need-put-requires
+put-requires c κs = (text-short _ (c .before .input-refused .ensures), search needs)
+
+same-length : tie.Need-same-length
+same-length c = search needs
+
+returns : tie.Need-returns
+returns c =
+    said-alone _ (c .before .before .before .before .before .before .before .before .before .args .out .now) (at-fault _ (c .before .before .before .before .before .before .fault .ensures) (c .before .before .before .before .before .if1 .taken)) (search needs) (c .before .before .before .before .input-refused .ensures)
+    (c .before .before .put .ensures .0) (c .before .before .put .ensures .1)
+
+slots-at-requires : tie.Need-slots-at-requires
+slots-at-requires c κs = fine _ (c .before .fault .ensures) (c .if1 .left) .two
+
+sub-start : tie.Need-sub-start
+sub-start c = search needs
+
+part-start-start : tie.Need-part-start-start
+part-start-start c = search needs
+
+part-start-end : tie.Need-part-start-end
+part-start-end c = inside _ (c .before .before .fault .ensures) (c .before .if1 .left) _ (c .slots-at .ensures)
+
+start-requires : tie.Need-start-requires
+start-requires c κs = search needs
+
+enum-told : tie.Need-enum-told
+enum-told c = search needs
+
+lines-requires : tie.Need-lines-requires
+lines-requires c κs = (
+  (inside _ (c .before .before .before .before .before .before .before .before .fault .ensures) (c .before .before .before .before .before .before .before .if1 .left) _ (c .before .before .before .before .before .before .slots-at .ensures), fine _ (c .before .before .before .before .before .before .before .before .fault .ensures) (c .before .before .before .before .before .before .before .if1 .left) .most),
+  slots-fine _ (c .before .before .before .before .before .before .before .before .fault .ensures) (c .before .before .before .before .before .before .before .if1 .left) _ (c .before .before .before .before .before .before .slots-at .ensures),
+)
+
+enum-known-verdict : tie.Need-enum-known-verdict
+enum-known-verdict c = search needs
+
+book-refused-requires : tie.Need-book-refused-requires
+book-refused-requires c κs = search needs
+
+put-requires-2 : tie.Need-put-requires-2
+put-requires-2 c κs = (text-short _ (c .before .book-refused .ensures), search needs)
+
+same-length-2 : tie.Need-same-length-2
+same-length-2 c = search needs
+
+returns-2 : tie.Need-returns-2
+returns-2 c =
+    said-as (c .before .before .before .before .before .before .before .before .before .before .before .before .before .before .args .out .now)
+    (started _ (c .before .before .before .before .before .before .before .before .before .before .before .fault .ensures) (c .before .before .before .before .before .before .before .before .before .before .if1 .left) _ (c .before .before .before .before .before .before .before .before .before .slots-at .ensures) (c .before .before .before .before .before .before .before .start .ensures) (c .before .before .before .before .enum-told .given .1))
+    (c .before .before .lines .ensures .0) (c .before .before .lines .ensures .1)
+
+same-length-3 : tie.Need-same-length-3
+same-length-3 c = search needs
+
+returns-3 : tie.Need-returns-3
+returns-3 c =
+    said-alone _ (c .before .before .before .before .before .before .before .before .before .before .before .before .before .before .before .before .args .out .now)
+    (started _ (c .before .before .before .before .before .before .before .before .before .before .before .before .before .fault .ensures) (c .before .before .before .before .before .before .before .before .before .before .before .before .if1 .left) _ (c .before .before .before .before .before .before .before .before .before .before .before .slots-at .ensures) (c .before .before .before .before .before .before .before .before .before .start .ensures) (c .before .before .before .before .before .before .verdict .given .1))
+    (refusal-fits _) (c .before .before .before .before .book-refused .ensures) (c .before .before .put2 .ensures .0) (c .before .before .put2 .ensures .1)
+
+pub run-spec : {M : Type 1} → statement M
+run-spec =
+    tie.close
+    (tie.spec
+    fault-requires
+    input-refused-requires
+    put-requires
+    same-length
+    returns
+    slots-at-requires
+    sub-start
+    part-start-start
+    part-start-end
+    start-requires
+    enum-told
+    lines-requires
+    enum-known-verdict
+    book-refused-requires
+    put-requires-2
+    same-length-2
+    returns-2
+    same-length-3
+    returns-3)

@@ -1,0 +1,48 @@
+-- What a script says, and how much of it a buffer takes. Assumes nothing.
+use mathlib.Core.Bool.{cond}
+use mathlib.Core.List.{List, [], _∷_, _++_}
+use Prim.Native.Nat.{ℕ, _+_}
+use lib.ListN.{length, take, drop}
+use Rattle.book.specs.declared.Verdict.{Verdict}
+use Rattle.book.specs.declared.Verdict.the-variants.{Accepted, Refused}
+use Rattle.book.specs.Reading.{readBook}
+use Rattle.protocol.specs.declared.Endpoint.{Endpoint}
+use Rattle.protocol.specs.declared.SlotAnswer.{SlotAnswer}
+use Rattle.protocol.specs.declared.Start.{Start}
+use Rattle.protocol.specs.Slot.{startOf, slotOf, outcomeOf}
+use Rattle.text.specs.Ascii.{ascii}
+use Rattle.text.specs.Numerals.{decimalOf}
+use Rattle.script.specs.Input.{bookIn, slotsIn, scriptFault, driveOf}
+use Rattle.script.specs.Line.{lineOf}
+
+-- the line of the slot at a place, by its answer
+abbrev pub lineBy : ℕ → SlotAnswer → List ℕ
+lineBy place a = lineOf place (outcomeOf (a .state)) (a .reply)
+
+-- the lines of the slots from a place on, the end being in this state; the last slot is whole
+unfoldable pub linesFrom : ℕ → Endpoint → List ℕ → List ℕ
+linesFrom place e [] = []
+linesFrom place e (heard ∷ []) = []
+linesFrom place e (heard ∷ flags ∷ []) = []
+linesFrom place e (heard ∷ flags ∷ unit ∷ rest) =
+    let a = slotOf e heard (driveOf flags unit) in lineBy place a ++ linesFrom (place + 1) (a .state) rest
+
+unfoldable pub bookRefused : ℕ → List ℕ
+bookRefused number = ascii "book refused by number " ++ decimalOf number ++ ascii "\n"
+
+abbrev pub saysFrom : List ℕ → Endpoint → Verdict → List ℕ
+saysFrom slots e Accepted = linesFrom 0 e slots
+saysFrom slots e (Refused number) = bookRefused number
+
+abbrev pub saysStarted : List ℕ → Start → List ℕ
+saysStarted slots b = saysFrom slots (b .state) (b .verdict)
+
+-- the input is tested before the book is read
+unfoldable pub scriptSays : List ℕ → List ℕ
+scriptSays s =
+    cond (scriptFault s) (ascii "input refused\n")
+    (saysStarted (slotsIn s) (startOf (readBook (bookIn s))))
+
+-- a buffer with xs from its start on, as much of it as there is room for, all other places as they were
+abbrev pub over : List ℕ → List ℕ → List ℕ
+over xs out = take (length out) xs ++ drop (length xs) out
