@@ -3,4 +3,5 @@ mod Filling
 pub mod LineLength
 mod Telling
 mod Saying
+pub mod Room
 pub mod OneReply

@@ -7,6 +7,7 @@ use lib.Dec.{ltb}
 use lib.ListN.{length, length-append}
 use borrow.Author.Tests.{lt-ltb}
 use Rattle.book.specs.declared.Entry.{Entry}
+use Rattle.channel.specs.declared.byte.ChannelByte.{ChannelByte}
 use Rattle.protocol.specs.declared.Signals.{Signals}
 use Rattle.protocol.specs.declared.Delivered.{Delivered}
 use Rattle.protocol.specs.declared.Delivered.the-variants.{Nothing, Unit}
@@ -41,12 +42,12 @@ flag-length : (on : Bool) → length (flagDigit on) ≡ 1
 flag-length true = refl
 flag-length false = refl
 
-signals-length : (g : Signals) → length (signalDigits g) ≡ 5
+pub signals-length : (g : Signals) → length (signalDigits g) ≡ 5
 unfolding signalDigits
 signals-length g =
     simp (length-append, flag-length)
 
-parameters-length : (p : Entry) → length (parameters p) ≡ 10
+pub parameters-length : (p : Entry) → length (parameters p) ≡ 10
 unfolding parameters hexOf
 parameters-length p = refl
 
@@ -54,12 +55,17 @@ unit-most : (d : Delivered) → length (unitField d) ≤ 5
 unit-most Nothing = omega arith
 unit-most (Unit u) = decimal-most u
 
--- what the reply of a slot adds to its line: most where the slot was refused
-pub reply-most : (r : Reply) → length (replyFields r) + length (refusalNote r) ≤ 15
-unfolding replyFields sentField deliveredField takenField refusalNote hexOf
+-- what the reply of a slot adds to its line
+pub passed-most : (sent : ChannelByte) (delivered : Delivered) (taken : Bool) (stands : Outcome)
+    → length (replyFields (reply.Passed sent delivered taken stands)) ≤ 10
+unfolding replyFields sentField deliveredField takenField hexOf
+passed-most sent delivered true stands = simp length-append (omega (arith, unit-most delivered))
+passed-most sent delivered false stands = simp length-append (omega (arith, unit-most delivered))
+
+reply-most : (r : Reply) → length (replyFields r) + length (refusalNote r) ≤ 15
+unfolding replyFields sentField deliveredField takenField refusalNote
 reply-most (reply.Refused number) = simp length-append (omega (arith, decimal-most number))
-reply-most (reply.Passed sent delivered true stands) = simp length-append (omega (arith, unit-most delivered))
-reply-most (reply.Passed sent delivered false stands) = simp length-append (omega (arith, unit-most delivered))
+reply-most (reply.Passed sent delivered taken stands) = omega (arith, passed-most sent delivered taken stands)
 
 -- and what the outcome adds: most where the end is open
 pub outcome-most : (o : Outcome) → length (outcomeFields o) ≤ 33
@@ -69,7 +75,7 @@ outcome-most (outcome.Open version profile slot signals) =
     simp (length-append, signals-length, parameters-length) (omega (arith, decimal-most version, decimal-most slot))
 outcome-most (outcome.Refused number slot) = simp length-append (omega (arith, decimal-most number, decimal-most slot))
 
-line-length : (place : ℕ) (o : Outcome) (r : Reply)
+pub line-length : (place : ℕ) (o : Outcome) (r : Reply)
     → length (lineOf place o r) ≡ length (decimalOf place) + 3 + (length (replyFields r) + length (refusalNote r)) + length (outcomeFields o)
 unfolding lineOf
 line-length place o r = simp length-append (omega arith)

@@ -1,0 +1,135 @@
+-- How much of what a script says stands in a buffer; and a buffer that has room for what any script says. Assumes nothing.
+use mathlib.Core.Path.{_≡_, refl, ap, sym, _∙_}
+use mathlib.Core.Bool.{Bool, true, false, cond, _&&_}
+use mathlib.Core.List.{List, [], _∷_}
+use Prim.Native.Nat.{ℕ, suc, _+_, _-_, _*_, _≤_, _<_, min}
+use native.Mathlib.Nat.{min-le-right}
+use native.Mathlib.Omega.{arith}
+use lib.Dec.{eqb, ltb, leb}
+use lib.ListN.{length, take, length-append, length-drop}
+use lib.Seq.{length-take-le}
+use borrow.Author.Tests.{leb-true}
+use Rattle.ground.specs.Digits.{bit}
+use Rattle.ground.proofs.Test.{both-left, both-right}
+use Rattle.book.specs.declared.Verdict.{Verdict}
+use Rattle.book.specs.declared.Verdict.the-variants as verdict
+use Rattle.book.specs.Kept.{bookOk}
+use Rattle.book.specs.Reading.{accepts, readBook}
+use Rattle.book.proofs.RoundTrip.{read-passes}
+use Rattle.channel.specs.Bytes.{byte}
+use Rattle.protocol.specs.declared.Phase.{Phase}
+use Rattle.protocol.specs.declared.Phase.the-variants.{Exchanging, Open, Refused}
+use Rattle.protocol.specs.declared.Endpoint.{Endpoint}
+use Rattle.protocol.specs.declared.Drive.{Drive}
+use Rattle.protocol.specs.declared.Reply.the-variants as reply
+use Rattle.protocol.specs.Sent.{byteSent}
+use Rattle.protocol.specs.Exchange.{entryOf, identifier}
+use Rattle.protocol.specs.Opened.{shapeOf}
+use Rattle.protocol.specs.Ranges.{allZero, isVersion, outboundIn, inboundIn, phaseIn, wellFormed}
+use Rattle.protocol.specs.Slot.{Step, stepOf, offerAllowed, outcomeAt, outcomeOf, passes, refuses, slotOf, started, startOf}
+use Rattle.protocol.proofs.StateKept.{started-kept, slot-kept}
+use Rattle.text.specs.Numerals.{decimalOf}
+use Rattle.script.specs.Input.{bookIn, slotsIn, scriptFault, driveOf}
+use Rattle.script.specs.Line.{sentField, deliveredField, takenField, refusalNote, replyFields, signalsField, standsField, detailField, outcomeFields}
+use Rattle.script.specs.Output.{lineBy, linesFrom, saysFrom, saysStarted, scriptSays, over}
+use Rattle.script.proofs.LineLength.{decimal-most, one-digit, signals-length, parameters-length, passed-most, outcome-most, line-length}
+use Rattle.script.proofs.Saying.{refusal-fits, fine}
+
+over-length : (xs out : List ℕ) → length (over xs out) ≡ length out
+over-length [] [] = refl
+over-length [] (y ∷ out) = refl
+over-length (x ∷ xs) [] = refl
+over-length (x ∷ xs) (y ∷ out) = ap suc (over-length xs out)
+
+-- the part of the buffer that was written is as long as the reply says
+pub written : (xs out : List ℕ) {r : ℕ} → r ≡ min (length xs) (length out) → {after : List ℕ} → after ≡ over xs out
+    → r ≡ length (take r after)
+written xs out {r} er {after} ea =
+    let l : length after ≡ length out = ap length ea ∙ over-length xs out in
+    let h : r ≤ length after = omega (arith, min-le-right (length xs) (length out)) in
+    sym (length-take-le r after h)
+
+-- an end that is well formed has a version of one digit
+module _ (e : Endpoint) where
+  outcome-short : (p : Phase) → phaseIn (e .book) (e .nibbles) (e .values) p ≡ true → length (outcomeFields (outcomeAt e p)) ≤ 29
+  unfolding outcomeAt phaseIn isVersion outcomeFields signalsField standsField detailField
+  outcome-short (Exchanging slot version a s) ok = omega arith
+  outcome-short (Open slot version i line) ok =
+      let b = e .book in
+      let shape = shapeOf (entryOf b i) version in
+      let in-time = ltb slot (b .limit) in
+      let has-entry = ltb i (b .n) in
+      let sends = outboundIn shape (line .outbound) in
+      let hears = inboundIn shape (line .inbound) in
+      let v = isVersion b version in
+      let to-version : isVersion b version ≡ true =
+      both-right in-time v
+      (both-left (in-time && v) has-entry
+      (both-left (in-time && v && has-entry) sends
+      (both-left (in-time && v && has-entry && sends) hears
+      (both-left (in-time && v && has-entry && sends && hears) (allZero (e .nibbles)) ok)))) in
+      let low : leb version 8 ≡ true =
+      both-right (leb 1 version) (leb version 8)
+      (both-left (leb 1 version && leb version 8) (eqb (bit (version - 1) (identifier b)) 1) to-version) in
+      let small : version < 10 = omega (arith, leb-true version 8 low) in
+      simp (length-append, signals-length, parameters-length, one-digit version small) (omega (arith, decimal-most slot))
+  outcome-short (Refused number slot) ok =
+      simp length-append (omega (arith, decimal-most number, decimal-most slot))
+
+passed-line : (place : ℕ) (s : Step) → length (lineBy place (passes s)) ≤ 51
+unfolding refusalNote
+passed-line place s =
+    let o = outcomeOf (s .state) in
+    let sent = byte (byteSent (s .sent)) in
+    rw (line-length place o (reply.Passed sent (s .delivered) (s .taken) o))
+    (omega (arith, decimal-most place, passed-most sent (s .delivered) (s .taken) o, outcome-most o))
+
+refused-line : (place : ℕ) (e : Endpoint) → wellFormed e ≡ true → length (lineBy place (refuses e 12)) ≤ 51
+unfolding wellFormed replyFields sentField deliveredField takenField refusalNote decimalOf
+refused-line place e ok =
+    rw (line-length place (outcomeOf e) (reply.Refused 12))
+    (omega (arith, decimal-most place, outcome-short e (e .phase) (both-right (bookOk (e .book)) (phaseIn (e .book) (e .nibbles) (e .values) (e .phase)) ok)))
+
+-- no line of a slot is longer than 51 characters
+pub slot-line : (place : ℕ) (e : Endpoint) (heard : ℕ) (g : Drive) → wellFormed e ≡ true
+    → length (lineBy place (slotOf e heard g)) ≤ 51
+unfolding slotOf
+slot-line place e heard g ok = rw ok (by (offerAllowed e g (e .phase)))
+  where
+    by : (allowed : Bool) → length (lineBy place (cond allowed (passes (stepOf e heard g)) (refuses e 12))) ≤ 51
+    by true = passed-line place (stepOf e heard g)
+    by false = refused-line place e ok
+
+-- so that three bytes bring 17 characters each
+lines-room : (place : ℕ) (e : Endpoint) (xs : List ℕ) → wellFormed e ≡ true → length (linesFrom place e xs) ≤ 17 * length xs
+unfolding linesFrom
+lines-room place e [] ok = omega arith
+lines-room place e (heard ∷ []) ok = omega arith
+lines-room place e (heard ∷ flags ∷ []) ok = omega arith
+lines-room place e (heard ∷ flags ∷ unit ∷ rest) ok =
+    let g = driveOf flags unit in
+    let a = slotOf e heard g in
+    simp length-append
+    (omega (arith, slot-line place e heard g ok, lines-room (place + 1) (a .state) rest (slot-kept e heard g ok)))
+
+started-room : (slots bytes : List ℕ) → length slots ≤ 65535 → length (saysStarted slots (startOf (readBook bytes))) ≤ 17 * 65536
+unfolding startOf
+started-room slots bytes h = by (readBook bytes .verdict) refl
+  where
+    by : (v : Verdict) → readBook bytes .verdict ≡ v → length (saysFrom slots (started (readBook bytes .book)) v) ≤ 17 * 65536
+    by verdict.Accepted e =
+        let b = readBook bytes .book in
+        let reads : readBook bytes ≡ accepts b = ap (λ (v : Verdict). record { verdict = v; book = b }) e in
+        omega (arith, lines-room 0 (started b) slots (started-kept b (read-passes bytes b reads)))
+    by (verdict.Refused number) e = omega (arith, refusal-fits number)
+
+-- 1,114,112 bytes are room for what any script says
+pub any-script-fits : (s : List ℕ) → length (scriptSays s) ≤ 17 * 65536
+unfolding scriptSays
+any-script-fits s = by (scriptFault s) refl
+  where
+    by : (f : Bool) → scriptFault s ≡ f → length (scriptSays s) ≤ 17 * 65536
+    by true e = rw e (omega arith)
+    by false e =
+        let slots : length (slotsIn s) ≤ 65535 = simp length-drop (omega (arith, fine s refl e .most)) in
+        rw e (started-room (slotsIn s) (bookIn s) slots)
