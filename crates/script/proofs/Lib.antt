@@ -5,3 +5,4 @@ mod Telling
 mod Saying
 pub mod Room
 pub mod OneReply
+pub mod Samples

@@ -1,13 +1,13 @@
 -- How much of what a script says stands in a buffer; and a buffer that has room for what any script says. Assumes nothing.
 use mathlib.Core.Path.{_≡_, refl, ap, sym, _∙_}
 use mathlib.Core.Bool.{Bool, true, false, cond, _&&_}
-use mathlib.Core.List.{List, [], _∷_}
+use mathlib.Core.List.{List, [], _∷_, _++_}
 use Prim.Native.Nat.{ℕ, suc, _+_, _-_, _*_, _≤_, _<_, min}
-use native.Mathlib.Nat.{min-le-right}
+use native.Mathlib.Nat.{min-le-right, min-eq-left}
 use native.Mathlib.Omega.{arith}
 use lib.Dec.{eqb, ltb, leb}
-use lib.ListN.{length, take, length-append, length-drop}
-use lib.Seq.{length-take-le}
+use lib.ListN.{length, take, drop, length-append, length-drop}
+use lib.Seq.{length-take-le, take-all, take-append-seam}
 use borrow.Author.Tests.{leb-true}
 use Rattle.ground.specs.Digits.{bit}
 use Rattle.ground.proofs.Test.{both-left, both-right}
@@ -42,11 +42,11 @@ over-length (x ∷ xs) [] = refl
 over-length (x ∷ xs) (y ∷ out) = ap suc (over-length xs out)
 
 -- the part of the buffer that was written is as long as the reply says
-pub written : (xs out : List ℕ) {r : ℕ} → r ≡ min (length xs) (length out) → {after : List ℕ} → after ≡ over xs out
-    → r ≡ length (take r after)
-written xs out {r} er {after} ea =
-    let l : length after ≡ length out = ap length ea ∙ over-length xs out in
-    let h : r ≤ length after = omega (arith, min-le-right (length xs) (length out)) in
+pub written : (s out : List ℕ) {r : ℕ} → r ≡ min (length (scriptSays s)) (length out)
+    → {after : List ℕ} → after ≡ over (scriptSays s) out → r ≡ length (take r after)
+written s out {r} er {after} ea =
+    let l : length after ≡ length out = ap length ea ∙ over-length (scriptSays s) out in
+    let h : r ≤ length after = omega (arith, min-le-right (length (scriptSays s)) (length out)) in
     sym (length-take-le r after h)
 
 -- an end that is well formed has a version of one digit
@@ -133,3 +133,13 @@ any-script-fits s = by (scriptFault s) refl
     by false e =
         let slots : length (slotsIn s) ≤ 65535 = simp length-drop (omega (arith, fine s refl e .most)) in
         rw e (started-room (slotsIn s) (bookIn s) slots)
+
+-- so that the part of such a buffer that was written is all that the script says
+pub all-said : (s out : List ℕ) → 17 * 65536 ≤ length out → {r : ℕ} → r ≡ min (length (scriptSays s)) (length out)
+    → {after : List ℕ} → after ≡ over (scriptSays s) out → take r after ≡ scriptSays s
+all-said s out room {r} er {after} ea =
+    let h : length (scriptSays s) ≤ length out = omega (arith, any-script-fits s) in
+    let n : r ≡ length (scriptSays s) = er ∙ min-eq-left h in
+    ap (λ (k : ℕ). take k after) n
+    ∙ ap (take (length (scriptSays s))) (ea ∙ ap (λ (l : List ℕ). l ++ drop (length (scriptSays s)) out) (take-all (length out) (scriptSays s) h))
+    ∙ take-append-seam (scriptSays s) (drop (length (scriptSays s)) out)
