@@ -16,27 +16,8 @@ use Rattle.protocol.specs.declared.Outcome.the-variants as outcome
 use Rattle.protocol.specs.declared.Reply.{Reply}
 use Rattle.protocol.specs.declared.Reply.the-variants as reply
 use Rattle.text.specs.Numerals.{placeOf, decimalOf, hexOf}
-use Rattle.script.specs.Line.{sentField, unitField, deliveredField, takenField, flagDigit, signalDigits, signalsField, standsField, parameters, detailField, refusalNote, replyFields, outcomeFields, lineOf}
-
-place-most : (n unit : ℕ) → length (placeOf n unit) ≤ 1
-place-most n unit = by (ltb n unit) refl
-  where
-    by : (t : Bool) → ltb n unit ≡ t → length (placeOf n unit) ≤ 1
-    by true e = rw e (omega arith)
-    by false e = rw e (omega arith)
-
-pub decimal-most : (n : ℕ) → length (decimalOf n) ≤ 5
-unfolding decimalOf
-decimal-most n =
-    simp length-append (omega (arith, place-most n 10000, place-most n 1000, place-most n 100, place-most n 10))
-
-pub one-digit : (n : ℕ) → n < 10 → length (decimalOf n) ≡ 1
-unfolding decimalOf
-one-digit n h =
-    let a : n < 100 = omega arith in
-    let b : n < 1000 = omega arith in
-    let c : n < 10000 = omega arith in
-    simp (lt-ltb n 10 h, lt-ltb n 100 a, lt-ltb n 1000 b, lt-ltb n 10000 c)
+use Rattle.text.proofs.Lengths.{decimal-most, parameters-length}
+use Rattle.script.specs.Line.{sentField, unitField, deliveredField, takenField, flagDigit, signalDigits, signalsField, standsField, detailField, refusalNote, replyFields, outcomeFields, lineOf}
 
 flag-length : (on : Bool) → length (flagDigit on) ≡ 1
 flag-length true = refl
@@ -46,10 +27,6 @@ pub signals-length : (g : Signals) → length (signalDigits g) ≡ 5
 unfolding signalDigits
 signals-length g =
     simp (length-append, flag-length)
-
-pub parameters-length : (p : Entry) → length (parameters p) ≡ 10
-unfolding parameters hexOf
-parameters-length p = refl
 
 unit-most : (d : Delivered) → length (unitField d) ≤ 5
 unit-most Nothing = omega arith

@@ -32,7 +32,8 @@ use Rattle.text.specs.Numerals.{decimalOf}
 use Rattle.script.specs.Input.{bookIn, slotsIn, scriptFault, driveOf}
 use Rattle.script.specs.Line.{sentField, deliveredField, takenField, refusalNote, replyFields, signalsField, standsField, detailField, outcomeFields}
 use Rattle.script.specs.Output.{lineBy, linesFrom, saysFrom, saysStarted, scriptSays, over}
-use Rattle.script.proofs.LineLength.{decimal-most, one-digit, signals-length, parameters-length, passed-most, outcome-most, line-length}
+use Rattle.text.proofs.Lengths.{decimal-most, one-digit, parameters-length}
+use Rattle.script.proofs.LineLength.{signals-length, passed-most, outcome-most, line-length}
 use Rattle.script.proofs.Saying.{refusal-fits, fine}
 
 over-length : (xs out : List ℕ) → length (over xs out) ≡ length out

@@ -14,9 +14,9 @@ use Rattle.protocol.specs.declared.Reply.the-variants as reply
 use Rattle.protocol.specs.Computing.{computing}
 use Rattle.protocol.specs.Slot.{startOf}
 use Rattle.text.specs.Ascii.{ascii}
-use Rattle.text.specs.Numerals.{decimalOf, hexOf}
+use Rattle.text.specs.Numerals.{decimalOf, hexOf, parametersOf}
 use Rattle.script.specs.Input.{slotsFault, scriptFault, driveOf}
-use Rattle.script.specs.Line.{sentField, deliveredField, takenField, signalDigits, signalsField, standsField, parameters, detailField, refusalNote, replyFields, outcomeFields, lineOf}
+use Rattle.script.specs.Line.{sentField, deliveredField, takenField, signalDigits, signalsField, standsField, detailField, refusalNote, replyFields, outcomeFields, lineOf}
 use Rattle.script.specs.Output.{linesFrom, bookRefused, scriptSays}
 
 -- s2 and BK on
@@ -31,7 +31,7 @@ pub lines : (lineOf 0 Exchanging (reply.Passed (byte 0x57) delivered.Nothing fal
     × (lineOf 500 opened (reply.Passed (byte 0x0D) (delivered.Unit 165) true opened) ≡ ascii "500 0D 165 t 01001 open 2/01A2030405/424\n")
     × (lineOf 501 opened (reply.Refused 12) ≡ ascii "501 -- - - 01001 open 2/01A2030405/424 by 12\n")
     × (lineOf 44 (Refused 21 43) (reply.Passed (byte 0x43) delivered.Nothing false (Refused 21 43)) ≡ ascii "44 43 - - ----- refused 21/43\n")
-unfolding lineOf replyFields outcomeFields sentField deliveredField takenField signalDigits signalsField standsField parameters detailField refusalNote decimalOf hexOf
+unfolding lineOf replyFields outcomeFields sentField deliveredField takenField signalDigits signalsField standsField parametersOf detailField refusalNote decimalOf hexOf
 lines = (refl, refl, refl, refl)
 
 -- an answering unit's book of 17 bytes, with this mask
@@ -48,5 +48,5 @@ pub scripts : (scriptSays (script 3 []) ≡ [])
     × (scriptSays (script 4 (0x57 ∷ 0x80 ∷ 0 ∷ [])) ≡ ascii "input refused\n")
     × (scriptSays (script 4 (0x57 ∷ 0x04 ∷ [])) ≡ ascii "input refused\n")
     × (scriptSays [] ≡ ascii "input refused\n")
-unfolding computing readBook startOf scriptSays scriptFault slotsFault linesFrom driveOf bookRefused lineOf replyFields outcomeFields sentField deliveredField takenField signalDigits signalsField standsField parameters detailField refusalNote decimalOf hexOf
+unfolding computing readBook startOf scriptSays scriptFault slotsFault linesFrom driveOf bookRefused lineOf replyFields outcomeFields sentField deliveredField takenField signalDigits signalsField standsField parametersOf detailField refusalNote decimalOf hexOf
 scripts = (refl, refl, refl, refl, refl, refl)

@@ -18,12 +18,8 @@ use Rattle.text.specs.Text.{text}
 use Rattle.text.specs.Ascii.{ascii}
 use Rattle.script.specs.Input.{mostBytes, bookLength, bookIn, slotsAt, slotsIn, slotsFault, scriptFault}
 use Rattle.script.specs.Output.{bookRefused, saysFrom, scriptSays, over}
-use Rattle.script.proofs.LineLength.{decimal-most}
+use Rattle.text.proofs.Lengths.{decimal-most}
 use Rattle.script.proofs.Filling.{SoFar, begin, go-on, finish-buffer, finish-count}
-
-pub text-short : (xs : List ℕ) {t : Text} → t ≡ text xs → t .length ≤ 64
-unfolding text
-text-short xs e = subst (λ (t : Text). t .length ≤ 64) (sym e) (min-le-right (length xs) 64)
 
 -- a text is all that is said
 pub said-alone : {whole : List ℕ} (xs out : List ℕ) → whole ≡ xs → length xs ≤ 64 → {t : Text} → t ≡ text xs

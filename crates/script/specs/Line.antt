@@ -11,7 +11,7 @@ use Rattle.protocol.specs.declared.Outcome.the-variants as outcome
 use Rattle.protocol.specs.declared.Reply.{Reply}
 use Rattle.protocol.specs.declared.Reply.the-variants as reply
 use Rattle.text.specs.Ascii.{ascii}
-use Rattle.text.specs.Numerals.{decimalOf, hexOf}
+use Rattle.text.specs.Numerals.{decimalOf, hexOf, parametersOf}
 
 abbrev pub space : List ℕ
 space = ascii " "
@@ -58,15 +58,11 @@ standsField outcome.Exchanging = ascii "exchange"
 standsField (outcome.Open version profile slot signals) = ascii "open"
 standsField (outcome.Refused number slot) = ascii "refused"
 
--- the five parameters in upper-case hex
-unfoldable pub parameters : Entry → List ℕ
-parameters p = hexOf (p .p0) ++ hexOf (p .p1) ++ hexOf (p .p2) ++ hexOf (p .p3) ++ hexOf (p .p4)
-
 -- for open the version, the parameters and the slot of opening; for refused the number and the slot
 unfoldable pub detailField : Outcome → List ℕ
 detailField outcome.Exchanging = ascii "-"
 detailField (outcome.Open version profile slot signals) =
-    decimalOf version ++ ascii "/" ++ parameters profile ++ ascii "/" ++ decimalOf slot
+    decimalOf version ++ ascii "/" ++ parametersOf profile ++ ascii "/" ++ decimalOf slot
 detailField (outcome.Refused number slot) = decimalOf number ++ ascii "/" ++ decimalOf slot
 
 -- the number where the slot itself was refused

@@ -8,11 +8,12 @@ use text::Text;
 use text::decimal;
 use text::empty;
 use text::hex;
+use text::parameters;
 use text::word;
 ghost use mathlib.Core.Path.{_≡_};
 ghost use Rattle.protocol.specs.declared.Outcome.the-variants.{Open};
 ghost use Rattle.text.specs.Text.{text, appended};
-ghost use Rattle.script.specs.Line.{space, sentField, unitField, deliveredField, takenField, flagDigit, signalDigits, signalsField, standsField, parameters, detailField, refusalNote, replyFields, outcomeFields, lineOf};
+ghost use Rattle.script.specs.Line.{space, sentField, unitField, deliveredField, takenField, flagDigit, signalDigits, signalsField, standsField, detailField, refusalNote, replyFields, outcomeFields, lineOf};
 
 fn spaced(t: Text) -> Text
     ensures { λ r. ⌜ r ≡ appended t space ⌝ }
@@ -127,17 +128,11 @@ fn with_stands(t: Text, o: Outcome) -> Text
     }
 }
 
-fn with_parameters(t: Text, p: Entry) -> Text
-    ensures { λ r. ⌜ r ≡ appended t (parameters p) ⌝ }
-{
-    hex(hex(hex(hex(hex(t, p.p0), p.p1), p.p2), p.p3), p.p4)
-}
-
 fn with_open(t: Text, version: u8, profile: Entry, slot: u16, signals: Signals) -> Text
     ensures { λ r. ⌜ r ≡ appended t (detailField (Open version profile slot signals)) ⌝ }
 {
     let a = word(decimal(t, version as u16), b"/");
-    let b = word(with_parameters(a, profile), b"/");
+    let b = word(parameters(a, profile), b"/");
     decimal(b, slot)
 }
 

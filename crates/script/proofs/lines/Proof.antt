@@ -3,7 +3,7 @@ use Prim.Native.Nat.{_-_}
 use native.Mathlib.Omega.{arith}
 use lib.ListN.{length}
 use Rattle.script.proofs.Telling.{Telling, start, whole, next, finish}
-use Rattle.script.proofs.Saying.{text-short}
+use Rattle.text.proofs.Lengths.{text-short}
 use borrow.Author.Needs.{needs}
 use Rattle.script.proofs.lines.Statement.{statement}
 use Rattle.script.proofs.lines.Tie as tie

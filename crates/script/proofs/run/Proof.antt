@@ -1,6 +1,7 @@
 -- `script::run` meets its contract. Assumes nothing.
 use borrow.Author.Needs.{needs}
-use Rattle.script.proofs.Saying.{text-short, said-alone, fine, inside, slots-fine, started, at-fault, said-as, refusal-fits}
+use Rattle.text.proofs.Lengths.{text-short}
+use Rattle.script.proofs.Saying.{said-alone, fine, inside, slots-fine, started, at-fault, said-as, refusal-fits}
 use Rattle.script.proofs.run.Statement.{statement}
 use Rattle.script.proofs.run.Tie as tie
 

@@ -14,8 +14,8 @@ slice-aggregate-word c = search needs
 word-requires : tie.Need-word-requires
 word-requires c κs = search needs
 
-with-parameters-requires : tie.Need-with-parameters-requires
-with-parameters-requires c κs = search needs
+parameters-requires : tie.Need-parameters-requires
+parameters-requires c κs = search needs
 
 slice-aggregate-word-2 : tie.Need-slice-aggregate-word-2
 slice-aggregate-word-2 c = search needs
@@ -28,7 +28,7 @@ decimal-requires-2 c κs = search needs
 
 returns : tie.Need-returns
 unfolding detailField
-returns c = simp (c .decimal2 .ensures, c .before .word2 .ensures, c .before .before .before .with-parameters .ensures, c .before .before .before .before .word .ensures, c .before .before .before .before .before .before .decimal .ensures, ← appended-append)
+returns c = simp (c .decimal2 .ensures, c .before .word2 .ensures, c .before .before .before .parameters .ensures, c .before .before .before .before .word .ensures, c .before .before .before .before .before .before .decimal .ensures, ← appended-append)
 
 pub with-open-spec : {M : Type 1} → statement M
 with-open-spec =
@@ -37,7 +37,7 @@ with-open-spec =
     decimal-requires
     slice-aggregate-word
     word-requires
-    with-parameters-requires
+    parameters-requires
     slice-aggregate-word-2
     word-requires-2
     decimal-requires-2
