@@ -8,7 +8,7 @@ use native.Mathlib.Omega.{arith}
 use lib.ListN.{length, take, drop, set, getD, replicate, length-drop, take-append-drop}
 use lib.Seq.{take-nil, drop-nil, take-take, take-append-le, drop-drop, paste, paste-suc, length-paste, take-paste, drop-paste}
 use Rattle.text.specs.declared.Text.{Text}
-use Rattle.text.specs.Text.{text}
+use Rattle.text.specs.Text.{room, text}
 use Rattle.script.specs.Output.{over}
 
 -- `whole` goes over out₀; out is out₀ with the part before `at` said, and `rest` is still to be said
@@ -48,8 +48,8 @@ module _ {whole out₀ out : List ℕ} {at : ℕ} (xs rest : List ℕ) (f : SoFa
   filled =
       let d : length (drop at out) ≡ length out - at = length-drop at out in
       let few : m ≤ length xs = omega (arith, min-le-left (length xs) (length (drop at out))) in
-      let room : at + m ≤ length out = omega (arith, min-le-right (length xs) (length (drop at out)), f .inside) in
-      let l : length (paste out at xs m) ≡ length out = length-paste out at xs m room few in
+      let space : at + m ≤ length out = omega (arith, min-le-right (length xs) (length (drop at out)), f .inside) in
+      let l : length (paste out at xs m) ≡ length out = length-paste out at xs m space few in
       let head : take (at + m) (paste out at xs m) ≡ take at out ++ take m xs = take-paste out at xs m (f .inside) few in
       let tail : drop (at + m) (paste out at xs m) ≡ drop (at + m) out = drop-paste out at xs m (f .inside) few in
       let left : length (drop m (drop at out)) ≡ length (paste out at xs m) - (at + m) =
@@ -74,7 +74,7 @@ module _ {whole out₀ out : List ℕ} {at : ℕ} (xs rest : List ℕ) (f : SoFa
       }
 
 -- the text of xs, which has room for all of it, put at `at` as the code does it
-module _ {whole out₀ out : List ℕ} {at : ℕ} (xs rest : List ℕ) (fits : length xs ≤ 64) (f : SoFar whole out₀ (xs ++ rest) out at)
+module _ {whole out₀ out : List ℕ} {at : ℕ} (xs rest : List ℕ) (fits : length xs ≤ room) (f : SoFar whole out₀ (xs ++ rest) out at)
     {t : Text} (is : t ≡ text xs) {next : ℕ} {after : List ℕ} (n : next ≡ at + min (t .length) (length out - at))
     (a : after ≡ paste out at (t .bytes) (min (t .length) (length out - at))) where
   pub go-on : SoFar whole out₀ rest after next
@@ -86,8 +86,8 @@ module _ {whole out₀ out : List ℕ} {at : ℕ} (xs rest : List ℕ) (fits : l
       let few : m ≤ length xs = min-le-left (length xs) (length out - at) in
       let same : take m (t .bytes) ≡ take m xs =
       ap (λ (t : Text). take m (t .bytes)) is
-      ∙ take-take m 64 (xs ++ replicate 64 0) (omega arith)
-      ∙ take-append-le m xs (replicate 64 0) few in
+      ∙ take-take m room (xs ++ replicate room 0) (omega arith)
+      ∙ take-append-le m xs (replicate room 0) few in
       let now : after ≡ paste out at xs m =
       a ∙ ap (paste out at (t .bytes)) em ∙ ap (λ (l : List ℕ). take at out ++ l ++ drop (at + m) out) same in
       subst (λ (l : List ℕ). SoFar whole out₀ rest l next) (sym now)
@@ -102,7 +102,7 @@ module _ {whole out₀ out : List ℕ} {at : ℕ} (f : SoFar whole out₀ [] out
   finish-count = sym (f .count ∙ rw (zero-min, add-zero))
 
 -- the copy of a text's bytes, one by one
-module _ (n at : ℕ) (bytes out₀ out : List ℕ) (i : ℕ) (room : length bytes ≡ 64) (most : n ≤ 64) (end : at + n ≤ length out₀)
+module _ (n at : ℕ) (bytes out₀ out : List ℕ) (i : ℕ) (all : length bytes ≡ room) (most : n ≤ room) (end : at + n ≤ length out₀)
     (e : out ≡ paste out₀ at bytes i) where
   pub paste-next : i < n → set out (at + i) (getD bytes i 0) ≡ paste out₀ at bytes (i + 1)
   paste-next h = rw (e, add-one i) (paste-suc out₀ at bytes i 0 (omega arith) (omega arith))

@@ -15,6 +15,7 @@ use Rattle.protocol.specs.declared.Outcome.{Outcome}
 use Rattle.protocol.specs.declared.Outcome.the-variants as outcome
 use Rattle.protocol.specs.declared.Reply.{Reply}
 use Rattle.protocol.specs.declared.Reply.the-variants as reply
+use Rattle.text.specs.Text.{room}
 use Rattle.text.specs.Numerals.{placeOf, decimalOf, hexOf}
 use Rattle.text.proofs.Lengths.{decimal-most, parameters-length}
 use Rattle.script.specs.Line.{sentField, unitField, deliveredField, takenField, flagDigit, signalDigits, signalsField, standsField, detailField, refusalNote, replyFields, outcomeFields, lineOf}
@@ -57,7 +58,7 @@ pub line-length : (place : ℕ) (o : Outcome) (r : Reply)
 unfolding lineOf
 line-length place o r = simp length-append (omega arith)
 
--- no line is longer than 64 characters, so that a text never cuts one
-pub line-fits : (place : ℕ) (o : Outcome) (r : Reply) → length (lineOf place o r) ≤ 64
+-- no line is longer than that, so that a text never cuts one
+pub line-fits : (place : ℕ) (o : Outcome) (r : Reply) → length (lineOf place o r) ≤ room
 line-fits place o r =
     rw (line-length place o r) (omega (arith, decimal-most place, reply-most r, outcome-most o))

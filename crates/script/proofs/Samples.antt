@@ -3,7 +3,6 @@ use mathlib.Core.Path.{_≡_, refl}
 use mathlib.Core.Bool.{true, false}
 use mathlib.Core.List.{List, [], _∷_, _++_}
 use Prim.Native.Nat.{ℕ}
-use Rattle.book.specs.declared.Entry.{Entry}
 use Rattle.book.specs.Reading.{readBook}
 use Rattle.channel.specs.Bytes.{byte}
 use Rattle.protocol.specs.declared.Signals.{Signals}

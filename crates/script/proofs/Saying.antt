@@ -1,6 +1,6 @@
 -- What a script says, by its parts: a text alone, or the lines of its slots. Assumes nothing.
-use mathlib.Core.Path.{_≡_, refl, ap, sym, _∙_, subst}
-use mathlib.Core.Bool.{Bool, true, false, _||_, true≢false}
+use mathlib.Core.Path.{_≡_, ap, sym, _∙_, subst}
+use mathlib.Core.Bool.{Bool, true, false, _||_}
 use mathlib.Core.List.{List, [], append-nil}
 use Prim.Native.Nat.{ℕ, _+_, _-_, _≤_, min}
 use native.Mathlib.Nat.{min-le-right}
@@ -14,15 +14,16 @@ use Rattle.book.specs.Reading.{readBook}
 use Rattle.protocol.specs.declared.Start.{Start}
 use Rattle.protocol.specs.Slot.{startOf}
 use Rattle.text.specs.declared.Text.{Text}
-use Rattle.text.specs.Text.{text}
+use Rattle.text.specs.Text.{room, text}
 use Rattle.text.specs.Ascii.{ascii}
 use Rattle.script.specs.Input.{mostBytes, bookLength, bookIn, slotsAt, slotsIn, slotsFault, scriptFault}
 use Rattle.script.specs.Output.{bookRefused, saysFrom, scriptSays, over}
 use Rattle.text.proofs.Lengths.{decimal-most}
+use Rattle.script.proofs.Slots.{or-left, or-right}
 use Rattle.script.proofs.Filling.{SoFar, begin, go-on, finish-buffer, finish-count}
 
 -- a text is all that is said
-pub said-alone : {whole : List ℕ} (xs out : List ℕ) → whole ≡ xs → length xs ≤ 64 → {t : Text} → t ≡ text xs
+pub said-alone : {whole : List ℕ} (xs out : List ℕ) → whole ≡ xs → length xs ≤ room → {t : Text} → t ≡ text xs
     → {r : ℕ} → r ≡ 0 + min (t .length) (length out - 0)
     → {after : List ℕ} → after ≡ paste out 0 (t .bytes) (min (t .length) (length out - 0))
     → (r ≡ min (length whole) (length out)) × (after ≡ over whole out)
@@ -36,17 +37,9 @@ pub said-as : {whole w : List ℕ} (out : List ℕ) → whole ≡ w → {r : ℕ
 said-as out e er eb =
     (er ∙ ap (λ (l : List ℕ). min (length l) (length out)) (sym e), eb ∙ ap (λ (l : List ℕ). over l out) (sym e))
 
-pub refusal-fits : (number : ℕ) → length (bookRefused number) ≤ 64
+pub refusal-fits : (number : ℕ) → length (bookRefused number) ≤ room
 unfolding bookRefused
 refusal-fits number = simp length-append (omega (arith, decimal-most number))
-
-or-left : (a b : Bool) → (a || b) ≡ false → a ≡ false
-or-left true b e = absurd (true≢false e)
-or-left false b e = refl
-
-or-right : (a b : Bool) → (a || b) ≡ false → b ≡ false
-or-right true b e = absurd (true≢false e)
-or-right false b e = e
 
 -- a script whose test f found no fault
 module _ (s : List ℕ) {f : Bool} (test : f ≡ scriptFault s) (ok : f ≡ false) where

@@ -17,9 +17,13 @@ three s i h =
     let all : i + 3 ≡ suc (suc (suc i)) = omega arith in
     rw (one, two, all, drop-cons s i 0 (omega arith), drop-cons s (suc i) 0 (omega arith), drop-cons s (suc (suc i)) 0 (omega arith))
 
-or-false-right : (a b : Bool) → (a || b) ≡ false → b ≡ false
-or-false-right true b e = absurd (true≢false e)
-or-false-right false b e = e
+pub or-left : (a b : Bool) → (a || b) ≡ false → a ≡ false
+or-left true b e = e
+or-left false b e = refl
+
+pub or-right : (a b : Bool) → (a || b) ≡ false → b ≡ false
+or-right true b e = absurd (true≢false e)
+or-right false b e = e
 
 short : (xs : List ℕ) → 0 < length xs → length xs < 3 → slotsFault xs ≡ true
 unfolding slotsFault
@@ -67,7 +71,7 @@ whole-slot s i ok h =
 pub rest-whole : (s : List ℕ) (i : ℕ) → slotsFault (drop i s) ≡ false → i + 3 ≤ length s → slotsFault (drop (i + 3) s) ≡ false
 unfolding slotsFault
 rest-whole s i ok h =
-    or-false-right (isStray (getD s (i + 1) 0)) (slotsFault (drop (i + 3) s))
+    or-right (isStray (getD s (i + 1) 0)) (slotsFault (drop (i + 3) s))
     (rw (three s i h) at ok)
 
 -- the tests of the whole input, in their order

@@ -1,9 +1,11 @@
 // A text put into the buffer.
+use text::ROOM;
 use text::Text;
 ghost use mathlib.Core.Path.{_≡_};
 ghost use Prim.Native.Nat.{_+_, _-_, _≤_, min};
 ghost use lib.ListN.{length};
 ghost use lib.Seq.{paste};
+ghost use Rattle.text.specs.Text.{room};
 
 fn least(a: usize, b: usize) -> usize
     ensures { λ r. ⌜ r ≡ min a b ⌝ }
@@ -15,8 +17,8 @@ fn least(a: usize, b: usize) -> usize
 }
 
 // The first n bytes go into out from the place at on.
-fn copy(bytes: [u8; 64], n: usize, out: &mut [u8], at: usize)
-    requires { ⌜ (n ≤ 64) × (at + n ≤ length (now out)) ⌝ }
+fn copy(bytes: [u8; ROOM], n: usize, out: &mut [u8], at: usize)
+    requires { ⌜ (n ≤ room) × (at + n ≤ length (now out)) ⌝ }
     ensures { λ r. ⌜ now (out .exit) ≡ paste (now (out .entry)) at bytes n ⌝ }
 {
     let mut i: usize = 0;
@@ -28,7 +30,7 @@ fn copy(bytes: [u8; 64], n: usize, out: &mut [u8], at: usize)
 
 // The text goes into out from the place at on, as much of it as there is room for; the reply is the place past it.
 pub(crate) fn put(t: Text, out: &mut [u8], at: usize) -> usize
-    requires { ⌜ (t .length ≤ 64) × (at ≤ length (now out)) ⌝ }
+    requires { ⌜ (t .length ≤ room) × (at ≤ length (now out)) ⌝ }
     ensures { λ r. ⌜ r ≡ at + min (t .length) (length (now (out .entry)) - at) ⌝ }
     ensures { λ r. ⌜ now (out .exit) ≡ paste (now (out .entry)) at (t .bytes) (min (t .length) (length (now (out .entry)) - at)) ⌝ }
 {

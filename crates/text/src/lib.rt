@@ -6,7 +6,7 @@ ghost use Prim.Native.Nat.{_<_};
 ghost use Rattle.text.specs.Text.{text, pushed, appended};
 ghost use Rattle.text.specs.Numerals.{digit, placeOf, decimalOf, hexDigit, hexOf, parametersOf};
 
-const ROOM: usize = 64;
+pub const ROOM: usize = 64;
 
 // A short text, from its start; zeros past it.
 pub struct Text {

@@ -4,7 +4,7 @@ use libc::STDOUT_FILENO;
 ghost use mathlib.Core.Path.{_≡_};
 ghost use lib.ListN.{length};
 
-// Room for what any script says.
+// Room for what any script says: 17 bytes for each byte that is read.
 fn output_buffer() -> [u8; 1114112]
     ensures { λ r. ⌜ 1114112 ≡ length r ⌝ }
 {

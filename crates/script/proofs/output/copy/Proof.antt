@@ -3,13 +3,14 @@ use mathlib.Core.Path.{_≡_, refl}
 use Prim.Native.Nat.{_-_, _≤_}
 use lib.ListN.{length}
 use lib.Seq.{paste, paste-zero}
+use Rattle.text.specs.Text.{room}
 use Rattle.script.proofs.Filling.{paste-next, paste-end}
 use borrow.Author.Needs.{needs}
 use Rattle.script.proofs.output.copy.Statement.{statement}
 use Rattle.script.proofs.output.copy.Tie as tie
 
 abbrev Inv-loop : tie.InvT-loop
-Inv-loop n out₀ at bytes i₀ out i = (i ≤ n) × (length bytes ≡ 64) × (length out ≡ length out₀) × (out ≡ paste out₀ at bytes i)
+Inv-loop n out₀ at bytes i₀ out i = (i ≤ n) × (length bytes ≡ room) × (length out ≡ length out₀) × (out ≡ paste out₀ at bytes i)
 
 abbrev μ-loop : tie.MeasureT-loop
 μ-loop n out₀ at bytes i₀ out i = n - i
