@@ -25,7 +25,14 @@ word-requires-2 c κs = search needs
 
 returns : tie.Need-returns
 unfolding bookRefused
-returns c = simp (c .word2 .ensures, c .before .before .decimal .ensures, c .before .before .before .word .ensures, c .before .before .before .before .before .empty .ensures, appended-text)
+returns c =
+    simp (
+      c .word2 .ensures,
+      c .before .before .decimal .ensures,
+      c .before .before .before .word .ensures,
+      c .before .before .before .before .before .empty .ensures,
+      appended-text,
+    )
 
 pub book-refused-spec : {M : Type 1} → statement M
 book-refused-spec =

@@ -45,7 +45,10 @@ line-requires : tie.Need-line-requires Inv-loop μ-loop
 line-requires c κs = search needs
 
 put-requires : tie.Need-put-requires Inv-loop μ-loop
-put-requires c κs = (text-short _ (c .before .line .ensures), c .before .before .before .before .before .before .before .before .before .before .loop .inv .told .inside)
+put-requires c κs =
+    let slot = c .before .before .before .before in
+    let turn = slot .before .before .before .before .before .before in
+    (text-short _ (c .before .line .ensures), turn .loop .inv .told .inside)
 
 add-place : tie.Need-add-place Inv-loop μ-loop
 add-place c = search needs
@@ -58,8 +61,12 @@ loop-less c = search needs
 
 loop-again : tie.Need-loop-again Inv-loop μ-loop
 loop-again c =
-    next (c .before .before .before .before .before .before .before .before .before .before .before .before .before .before .loop .inv) (c .before .before .before .before .before .before .before .before .before .before .before .before .before .loop-test .taken) (c .before .before .before .before .before .before .before .before .before .drive .ensures) (c .before .before .before .before .before .before .before .before .slot .ensures)
-    (c .before .before .before .before .before .before .outcome .ensures) (c .before .before .before .before .before .line .ensures) (c .before .before .before .put .ensures .0) (c .before .before .before .put .ensures .1)
+    let put = c .before .before .before in
+    let line = put .before .before in
+    let slot = line .before .before .before in
+    let test = slot .before .before .before .before .before in
+    next (test .before .loop .inv) (test .loop-test .taken) (slot .before .drive .ensures) (slot .slot .ensures)
+    (line .before .outcome .ensures) (line .line .ensures) (put .put .ensures .0) (put .put .ensures .1)
 
 same-length : tie.Need-same-length Inv-loop μ-loop
 same-length c = search needs

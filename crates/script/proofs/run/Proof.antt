@@ -19,8 +19,11 @@ same-length c = search needs
 
 returns : tie.Need-returns
 returns c =
-    said-alone _ (c .before .before .before .before .before .before .before .before .before .args .out .now) (at-fault _ (c .before .before .before .before .before .before .fault .ensures) (c .before .before .before .before .before .if1 .taken)) (search needs) (c .before .before .before .before .input-refused .ensures)
-    (c .before .before .put .ensures .0) (c .before .before .put .ensures .1)
+    let said = c .before .before in
+    let told = said .before .before in
+    let test = told .before in
+    said-alone _ (test .before .before .before .before .args .out .now) (at-fault _ (test .before .fault .ensures) (test .if1 .taken))
+    (search needs) (told .input-refused .ensures) (said .put .ensures .0) (said .put .ensures .1)
 
 slots-at-requires : tie.Need-slots-at-requires
 slots-at-requires c κs = fine _ (c .before .fault .ensures) (c .if1 .left) .two
@@ -41,10 +44,13 @@ enum-told : tie.Need-enum-told
 enum-told c = search needs
 
 lines-requires : tie.Need-lines-requires
-lines-requires c κs = (
-  (inside _ (c .before .before .before .before .before .before .before .before .fault .ensures) (c .before .before .before .before .before .before .before .if1 .left) _ (c .before .before .before .before .before .before .slots-at .ensures), fine _ (c .before .before .before .before .before .before .before .before .fault .ensures) (c .before .before .before .before .before .before .before .if1 .left) .most),
-  slots-fine _ (c .before .before .before .before .before .before .before .before .fault .ensures) (c .before .before .before .before .before .before .before .if1 .left) _ (c .before .before .before .before .before .before .slots-at .ensures),
-)
+lines-requires c κs =
+    let book = c .before .before .before .before .before .before in
+    let test = book .before in
+    let checked = fine _ (test .before .fault .ensures) (test .if1 .left) in (
+      (inside _ (test .before .fault .ensures) (test .if1 .left) _ (book .slots-at .ensures), checked .most),
+      slots-fine _ (test .before .fault .ensures) (test .if1 .left) _ (book .slots-at .ensures),
+    )
 
 enum-known-verdict : tie.Need-enum-known-verdict
 enum-known-verdict c = search needs
@@ -60,18 +66,29 @@ same-length-2 c = search needs
 
 returns-2 : tie.Need-returns-2
 returns-2 c =
-    said-as (c .before .before .before .before .before .before .before .before .before .before .before .before .before .before .args .out .now)
-    (started _ (c .before .before .before .before .before .before .before .before .before .before .before .fault .ensures) (c .before .before .before .before .before .before .before .before .before .before .if1 .left) _ (c .before .before .before .before .before .before .before .before .before .slots-at .ensures) (c .before .before .before .before .before .before .before .start .ensures) (c .before .before .before .before .enum-told .given .1))
-    (c .before .before .lines .ensures .0) (c .before .before .lines .ensures .1)
+    let said = c .before .before in
+    let begun = said .before .before .before .before .before in
+    let book = begun .before .before in
+    let test = book .before in
+    said-as (test .before .before .before .before .args .out .now)
+    (started _ (test .before .fault .ensures) (test .if1 .left) _ (book .slots-at .ensures) (begun .start .ensures)
+    (said .before .before .enum-told .given .1))
+    (said .lines .ensures .0) (said .lines .ensures .1)
 
 same-length-3 : tie.Need-same-length-3
 same-length-3 c = search needs
 
 returns-3 : tie.Need-returns-3
 returns-3 c =
-    said-alone _ (c .before .before .before .before .before .before .before .before .before .before .before .before .before .before .before .before .args .out .now)
-    (started _ (c .before .before .before .before .before .before .before .before .before .before .before .before .before .fault .ensures) (c .before .before .before .before .before .before .before .before .before .before .before .before .if1 .left) _ (c .before .before .before .before .before .before .before .before .before .before .before .slots-at .ensures) (c .before .before .before .before .before .before .before .before .before .start .ensures) (c .before .before .before .before .before .before .verdict .given .1))
-    (refusal-fits _) (c .before .before .before .before .book-refused .ensures) (c .before .before .put2 .ensures .0) (c .before .before .put2 .ensures .1)
+    let said = c .before .before in
+    let told = said .before .before in
+    let begun = told .before .before .before .before .before in
+    let book = begun .before .before in
+    let test = book .before in
+    said-alone _ (test .before .before .before .before .args .out .now)
+    (started _ (test .before .fault .ensures) (test .if1 .left) _ (book .slots-at .ensures) (begun .start .ensures)
+    (told .before .before .verdict .given .1))
+    (refusal-fits _) (told .book-refused .ensures) (said .put2 .ensures .0) (said .put2 .ensures .1)
 
 pub run-spec : {M : Type 1} → statement M
 run-spec =

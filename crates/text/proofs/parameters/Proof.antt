@@ -22,7 +22,15 @@ hex-requires-5 c κs = search needs
 
 returns : tie.Need-returns
 unfolding parametersOf
-returns c = simp (c .hex5 .ensures, c .before .hex4 .ensures, c .before .before .hex3 .ensures, c .before .before .before .hex2 .ensures, c .before .before .before .before .hex .ensures, ← appended-append)
+returns c =
+    simp (
+      c .hex5 .ensures,
+      c .before .hex4 .ensures,
+      c .before .before .hex3 .ensures,
+      c .before .before .before .hex2 .ensures,
+      c .before .before .before .before .hex .ensures,
+      ← appended-append,
+    )
 
 pub parameters-spec : {M : Type 1} → statement M
 parameters-spec =

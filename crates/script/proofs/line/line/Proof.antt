@@ -34,7 +34,18 @@ word-requires c κs = search needs
 
 returns : tie.Need-returns
 unfolding lineOf
-returns c = simp (c .word .ensures, c .before .before .with-note .ensures, c .before .before .before .with-outcome .ensures, c .before .before .before .before .spaced2 .ensures, c .before .before .before .before .before .with-reply .ensures, c .before .before .before .before .before .before .spaced .ensures, c .before .before .before .before .before .before .before .decimal .ensures, c .before .before .before .before .before .before .before .before .empty .ensures, appended-text)
+returns c =
+    simp (
+      c .word .ensures,
+      c .before .before .with-note .ensures,
+      c .before .before .before .with-outcome .ensures,
+      c .before .before .before .before .spaced2 .ensures,
+      c .before .before .before .before .before .with-reply .ensures,
+      c .before .before .before .before .before .before .spaced .ensures,
+      c .before .before .before .before .before .before .before .decimal .ensures,
+      c .before .before .before .before .before .before .before .before .empty .ensures,
+      appended-text,
+    )
 
 pub line-spec : {M : Type 1} → statement M
 line-spec =

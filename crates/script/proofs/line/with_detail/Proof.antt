@@ -48,7 +48,14 @@ returns-2 c = simp (c .with-open .ensures, c .before .before .o .given .1, ← a
 
 returns-3 : tie.Need-returns-3
 unfolding detailField
-returns-3 c = simp (c .decimal2 .ensures, c .before .word2 .ensures, c .before .before .before .decimal .ensures, c .before .before .before .before .before .o2 .given .1, ← appended-append)
+returns-3 c =
+    simp (
+      c .decimal2 .ensures,
+      c .before .word2 .ensures,
+      c .before .before .before .decimal .ensures,
+      c .before .before .before .before .before .o2 .given .1,
+      ← appended-append,
+    )
 
 pub with-detail-spec : {M : Type 1} → statement M
 with-detail-spec =

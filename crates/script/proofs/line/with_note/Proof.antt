@@ -26,7 +26,9 @@ enum-told c = search needs
 
 returns : tie.Need-returns
 unfolding refusalNote
-returns c = simp (c .decimal .ensures, c .before .word .ensures, c .before .before .before .before .reply .given .1, ← appended-append)
+returns c =
+    simp
+    (c .decimal .ensures, c .before .word .ensures, c .before .before .before .before .reply .given .1, ← appended-append)
 
 returns-2 : tie.Need-returns-2
 unfolding refusalNote appended

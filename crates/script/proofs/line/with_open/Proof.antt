@@ -28,7 +28,15 @@ decimal-requires-2 c κs = search needs
 
 returns : tie.Need-returns
 unfolding detailField
-returns c = simp (c .decimal2 .ensures, c .before .word2 .ensures, c .before .before .before .parameters .ensures, c .before .before .before .before .word .ensures, c .before .before .before .before .before .before .decimal .ensures, ← appended-append)
+returns c =
+    simp (
+      c .decimal2 .ensures,
+      c .before .word2 .ensures,
+      c .before .before .before .parameters .ensures,
+      c .before .before .before .before .word .ensures,
+      c .before .before .before .before .before .before .decimal .ensures,
+      ← appended-append,
+    )
 
 pub with-open-spec : {M : Type 1} → statement M
 with-open-spec =

@@ -22,7 +22,15 @@ with-detail-requires c κs = search needs
 
 returns : tie.Need-returns
 unfolding outcomeFields
-returns c = simp (c .with-detail .ensures, c .before .spaced2 .ensures, c .before .before .with-stands .ensures, c .before .before .before .spaced .ensures, c .before .before .before .before .with-standing .ensures, ← appended-append)
+returns c =
+    simp (
+      c .with-detail .ensures,
+      c .before .spaced2 .ensures,
+      c .before .before .with-stands .ensures,
+      c .before .before .before .spaced .ensures,
+      c .before .before .before .before .with-standing .ensures,
+      ← appended-append,
+    )
 
 pub with-outcome-spec : {M : Type 1} → statement M
 with-outcome-spec =

@@ -22,7 +22,15 @@ with-taken-requires c κs = search needs
 
 returns : tie.Need-returns
 unfolding replyFields
-returns c = simp (c .with-taken .ensures, c .before .spaced2 .ensures, c .before .before .with-delivered .ensures, c .before .before .before .spaced .ensures, c .before .before .before .before .with-sent .ensures, ← appended-append)
+returns c =
+    simp (
+      c .with-taken .ensures,
+      c .before .spaced2 .ensures,
+      c .before .before .with-delivered .ensures,
+      c .before .before .before .spaced .ensures,
+      c .before .before .before .before .with-sent .ensures,
+      ← appended-append,
+    )
 
 pub with-reply-spec : {M : Type 1} → statement M
 with-reply-spec =

@@ -22,7 +22,15 @@ with-flag-requires-5 c κs = search needs
 
 returns : tie.Need-returns
 unfolding signalDigits
-returns c = simp (c .with-flag5 .ensures, c .before .with-flag4 .ensures, c .before .before .with-flag3 .ensures, c .before .before .before .with-flag2 .ensures, c .before .before .before .before .with-flag .ensures, ← appended-append)
+returns c =
+    simp (
+      c .with-flag5 .ensures,
+      c .before .with-flag4 .ensures,
+      c .before .before .with-flag3 .ensures,
+      c .before .before .before .with-flag2 .ensures,
+      c .before .before .before .before .with-flag .ensures,
+      ← appended-append,
+    )
 
 pub with-signals-spec : {M : Type 1} → statement M
 with-signals-spec =
