@@ -1,20 +1,12 @@
--- The high nibble of a word: its DH, and whether a word of w bits has it. Assumes nothing.
+-- Whether a word of w bits has a high nibble. Assumes nothing.
 use mathlib.Core.Path.{_≡_, refl, sym, _∙_, ap}
 use mathlib.Core.Bool.{Bool, true, false}
-use Prim.Native.Nat.{ℕ, _+_, _-_, _*_, _%_, _^_, _<_, _≤_}
+use Prim.Native.Nat.{ℕ, _+_, _-_, _*_, _^_, _<_, _≤_}
 use native.Mathlib.Omega.{arith}
 use lib.Dec.{eqb, ltb}
 use lib.Pow.{pow-pos, pow-mono, pow-add}
 use borrow.Author.Tests.{ltb-true, ltb-false, lt-ltb, le-ltb, eqb-true, eqb-false}
-use Rattle.ground.proofs.Each.{each-eq}
-use Rattle.ground.specs.Digits.{val}
-use Rattle.channel.specs.Bytes.{laid, dhByte}
 use Rattle.channel.specs.Forms.{wordFits}
-
--- the DH takes four bits alone
-pub dh-of-nibble : (high : ℕ) → high < 256 → dhByte (high % 16 * 16) ≡ dhByte (16 * high)
-unfolding val laid dhByte
-dh-of-nibble high h = each-eq (λ x. dhByte (x % 16 * 16)) (λ x. dhByte (16 * x)) 256 tt high h
 
 -- a word of fewer than four bits has none but 0
 pub no-high : (w high : ℕ) → w < 4 → eqb high 0 ≡ wordFits w (16 * high)

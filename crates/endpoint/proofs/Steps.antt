@@ -14,9 +14,9 @@ use Rattle.protocol.specs.declared.Line.{Line}
 use Rattle.protocol.specs.declared.Fate.{Fate}
 use Rattle.protocol.specs.declared.Fate.the-variants.{Stays, OpensHearing, OpensSending, Refuses}
 use Rattle.protocol.specs.declared.Phase.the-variants.{Refused}
-use Rattle.endpoint.specs.declared.exchange.TurnMade.{TurnMade}
+use Rattle.exchange.specs.declared.turn.TurnMade.{TurnMade}
 use Rattle.endpoint.specs.declared.slot.StepMade.{StepMade}
-use Rattle.endpoint.specs.Made.{made}
+use Rattle.exchange.specs.Made.{made}
 use Rattle.endpoint.specs.StepMade.{stepMade, quietStep}
 
 module _ (b : Book) (slot : ℕ) (x : Exchange) (heard : ℕ) (g : Drive) {k : Kind} {t : TurnMade} (e : k ≡ kindOf heard) (a : t ≡ made (turn b x k)) where

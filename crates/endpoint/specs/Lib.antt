@@ -1,4 +1,2 @@
-pub mod Made
-pub mod OpenMade
 pub mod PhaseParts
 pub mod StepMade

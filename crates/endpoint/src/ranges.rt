@@ -1,23 +1,22 @@
 // The ranges behind refusal 13: a count, position or value outside the range that its phase, role and book allow.
-use crate::collecting::awaits_hail;
-use crate::collecting::has_all;
-use crate::collecting::has_identifier;
-use crate::collecting::item_of;
-use crate::exchange::entry_of;
-use crate::exchange::identifier;
-use crate::exchange::originates;
-use crate::lengths::GROUP_LENGTH;
-use crate::lengths::IDENTIFIER_RUN;
-use crate::lengths::all_parameter_bytes;
-use crate::lengths::run_length;
-use crate::lengths::wide;
-use crate::opened::OPENING_SD;
-use crate::opened::has_pair;
-use crate::opened::is_word;
-use crate::opened::opening_bytes;
-use crate::opened::shape_of;
 use book::Book;
 use channel::unit;
+use exchange::collecting::awaits_hail;
+use exchange::collecting::has_all;
+use exchange::collecting::has_identifier;
+use exchange::collecting::item_of;
+use exchange::kept_book::entry_of;
+use exchange::kept_book::identifier;
+use exchange::kept_book::originates;
+use exchange::lengths::GROUP_LENGTH;
+use exchange::lengths::IDENTIFIER_RUN;
+use exchange::lengths::all_parameter_bytes;
+use exchange::lengths::run_length;
+use opened::shape::OPENING_SD;
+use opened::shape::has_pair;
+use opened::shape::is_word;
+use opened::shape::opening_bytes;
+use opened::shape::shape_of;
 use protocol::Awaited;
 use protocol::Half;
 use protocol::Inbound;
@@ -104,7 +103,7 @@ fn behind(i: u8, a: Awaited) -> bool
 fn parameters_left(b: Book, i: u8) -> bool
     ensures { λ r. ⌜ r ≡ ltb i (allParameterBytes b) ⌝ }
 {
-    wide(i) < all_parameter_bytes(b)
+    (i as u16) < all_parameter_bytes(b)
 }
 
 // What an answerer sends, by what it awaits.

@@ -1,16 +1,16 @@
 // One slot of one end, and where the end stands.
-use crate::exchange::entry_of;
-use crate::exchange::first_exchange;
-use crate::exchange::turn;
-use crate::opened::fresh_line;
-use crate::opened::has_unit;
-use crate::opened::reading;
-use crate::opened::shape_of;
-use crate::opened::writing;
 use crate::ranges::phase_in;
 use book::Book;
 use book::book_ok;
 use channel::byte::ChannelByte;
+use exchange::kept_book::entry_of;
+use exchange::turn::first_exchange;
+use exchange::turn::turn;
+use opened::line::fresh_line;
+use opened::reading::reading;
+use opened::shape::has_unit;
+use opened::shape::shape_of;
+use opened::writing::writing;
 use protocol::Awaited;
 use protocol::Delivered;
 use protocol::Drive;

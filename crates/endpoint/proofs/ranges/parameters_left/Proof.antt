@@ -3,14 +3,11 @@ use borrow.Author.Needs.{needs}
 use Rattle.endpoint.proofs.ranges.parameters_left.Statement.{statement}
 use Rattle.endpoint.proofs.ranges.parameters_left.Tie as tie
 
-wide-requires : tie.Need-wide-requires
-wide-requires c κs = search needs
-
 all-parameter-bytes-requires : tie.Need-all-parameter-bytes-requires
 all-parameter-bytes-requires c κs = search needs
 
 returns : tie.Need-returns
-returns c = simp (c .all-parameter-bytes .ensures, c .before .wide .ensures)
+returns c = simp (c .all-parameter-bytes .ensures)
 
 pub parameters-left-spec : {M : Type 1} → statement M
-parameters-left-spec = tie.close (tie.spec wide-requires all-parameter-bytes-requires returns)
+parameters-left-spec = tie.close (tie.spec all-parameter-bytes-requires returns)

@@ -1,0 +1,15 @@
+pub mod PastEnd
+pub mod DueBytes
+pub mod InGroup
+pub mod EightBits
+pub mod OtherParams
+pub mod Matching
+pub mod Settled
+pub mod Hails
+pub mod LastSgp
+pub mod ParameterBytes
+pub mod Compared
+pub mod Choices
+pub mod Fates
+pub mod Turns
+pub mod OneReply

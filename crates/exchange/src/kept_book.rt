@@ -1,0 +1,52 @@
+// What the exchange takes from the kept book.
+use book::Book;
+use book::Entry;
+use book::ORIGINATING;
+ghost use mathlib.Core.Path.{_≡_};
+ghost use lib.ListN.{getD};
+ghost use Rattle.book.specs.Book.{noEntry};
+ghost use Rattle.protocol.specs.Exchange.{originates, entryOf, identifier};
+
+const MOST_ENTRIES: usize = 8;
+
+// What stands past the entries of a book.
+const NO_ENTRY: Entry = Entry {
+    p0: 0,
+    p1: 0,
+    p2: 0,
+    p3: 0,
+    p4: 0,
+    form: 0,
+    w: 0,
+};
+
+pub fn originates(b: Book) -> bool
+    ensures { λ r. ⌜ r ≡ originates b ⌝ }
+{
+    b.role == ORIGINATING
+}
+
+fn entry_at(entries: [Entry; MOST_ENTRIES], i: u8) -> Entry
+    ensures { λ r. ⌜ r ≡ getD entries i noEntry ⌝ }
+{
+    let at = i as usize;
+    if at < MOST_ENTRIES {
+        entries[at]
+    } else {
+        NO_ENTRY
+    }
+}
+
+pub fn entry_of(b: Book, i: u8) -> Entry
+    ensures { λ r. ⌜ r ≡ entryOf b i ⌝ }
+{
+    let entries = b.entries;
+    entry_at(entries, i)
+}
+
+// What an end sends as its identifier, and settles the version with.
+pub fn identifier(b: Book) -> u8
+    ensures { λ r. ⌜ r ≡ identifier b ⌝ }
+{
+    b.mask
+}

@@ -1,0 +1,3 @@
+pub mod PairForms
+pub mod DhOfNibble
+pub mod OneReply

@@ -1,0 +1,35 @@
+-- Any two replies that a public function's promise admits are equal: read off the promises as the source states them. Assumes nothing.
+use mathlib.Core.Path.{_≡_}
+use Rattle.ground.proofs.OneReply.{one-reply}
+use Rattle.opened.proofs.shape.shape_of.Reads as shape-of
+use Rattle.opened.proofs.shape.has_unit.Reads as has-unit
+use Rattle.opened.proofs.shape.is_word.Reads as is-word
+use Rattle.opened.proofs.shape.has_pair.Reads as has-pair
+use Rattle.opened.proofs.shape.opening_bytes.Reads as opening-bytes
+use Rattle.opened.proofs.line.fresh_line.Reads as fresh-line
+use Rattle.opened.proofs.reading.reading.Reads as reading
+use Rattle.opened.proofs.writing.writing.Reads as writing
+
+pub shape-of-one : (a : _) (r s : _) (x y : _) → shape-of.Post tt a r x → shape-of.Post tt a s y → r ≡ s
+shape-of-one a r s x y p q = one-reply _ p q
+
+pub has-unit-one : (a : _) (r s : _) (x y : _) → has-unit.Post tt a r x → has-unit.Post tt a s y → r ≡ s
+has-unit-one a r s x y p q = one-reply _ p q
+
+pub is-word-one : (a : _) (r s : _) (x y : _) → is-word.Post tt a r x → is-word.Post tt a s y → r ≡ s
+is-word-one a r s x y p q = one-reply _ p q
+
+pub has-pair-one : (a : _) (r s : _) (x y : _) → has-pair.Post tt a r x → has-pair.Post tt a s y → r ≡ s
+has-pair-one a r s x y p q = one-reply _ p q
+
+pub opening-bytes-one : (a : _) (r s : _) (x y : _) → opening-bytes.Post tt a r x → opening-bytes.Post tt a s y → r ≡ s
+opening-bytes-one a r s x y p q = one-reply _ (p .0) (q .0)
+
+pub fresh-line-one : (a : _) (r s : _) (x y : _) → fresh-line.Post tt a r x → fresh-line.Post tt a s y → r ≡ s
+fresh-line-one a r s x y p q = one-reply _ p q
+
+pub reading-one : (a : _) (r s : _) (x y : _) → reading.Post tt a r x → reading.Post tt a s y → r ≡ s
+reading-one a r s x y p q = one-reply _ p q
+
+pub writing-one : (a : _) (r s : _) (x y : _) → writing.Post tt a r x → writing.Post tt a s y → r ≡ s
+writing-one a r s x y p q = one-reply _ p q

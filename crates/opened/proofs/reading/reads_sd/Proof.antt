@@ -1,0 +1,13 @@
+-- `reads_sd` is `readsSd`. Assumes nothing.
+use borrow.Author.Needs.{needs}
+use Rattle.opened.proofs.reading.reads_sd.Statement.{statement}
+use Rattle.opened.proofs.reading.reads_sd.Tie as tie
+
+agreed-signals-requires : tie.Need-agreed-signals-requires
+agreed-signals-requires c κs = search needs
+
+returns : tie.Need-returns
+returns c = simp (c .agreed-signals .ensures)
+
+pub reads-sd-spec : {M : Type 1} → statement M
+reads-sd-spec = tie.close (tie.spec agreed-signals-requires returns)

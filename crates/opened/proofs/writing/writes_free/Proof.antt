@@ -1,0 +1,19 @@
+-- `writes_free` is `writesDue` with no DH due. Assumes nothing.
+use borrow.Author.Needs.{needs}
+use Rattle.opened.proofs.writing.writes_free.Statement.{statement}
+use Rattle.opened.proofs.writing.writes_free.Tie as tie
+
+writes-sd-requires : tie.Need-writes-sd-requires
+writes-sd-requires c κs = search needs
+
+returns : tie.Need-returns
+returns c = simp (c .writes-sd .ensures, c .before .if1 .taken)
+
+writes-offer-requires : tie.Need-writes-offer-requires
+writes-offer-requires c κs = search needs
+
+returns-2 : tie.Need-returns-2
+returns-2 c = simp (c .writes-offer .ensures, c .before .if1 .left)
+
+pub writes-free-spec : {M : Type 1} → statement M
+writes-free-spec = tie.close (tie.spec writes-sd-requires returns writes-offer-requires returns-2)

@@ -1,0 +1,18 @@
+-- `writes_sd` is `writesSd`. Assumes nothing.
+use borrow.Author.Needs.{needs}
+use Rattle.protocol.specs.Sent.{byteSent}
+use Rattle.opened.proofs.writing.writes_sd.Statement.{statement}
+use Rattle.opened.proofs.writing.writes_sd.Tie as tie
+
+bk-sent-requires : tie.Need-bk-sent-requires
+bk-sent-requires c κs = search needs
+
+sd-requires : tie.Need-sd-requires
+sd-requires c κs = search needs
+
+returns : tie.Need-returns
+unfolding byteSent
+returns c = simp (c .sd .ensures, c .before .bk-sent .ensures)
+
+pub writes-sd-spec : {M : Type 1} → statement M
+writes-sd-spec = tie.close (tie.spec bk-sent-requires sd-requires returns)

@@ -1,0 +1,23 @@
+-- What the code of an open end hands back: the fields of protocol's readings and writings, with the byte for what is sent.
+-- Assumes nothing.
+use mathlib.Core.Bool.{Bool}
+use Prim.Native.Nat.{ℕ}
+use Rattle.channel.specs.declared.byte.ChannelByte.{ChannelByte}
+use Rattle.channel.specs.Bytes.{byte}
+use Rattle.protocol.specs.Sent.{byteSent}
+use Rattle.protocol.specs.Opened.{Reading, Writing}
+use Rattle.protocol.specs.declared.Half.{Half}
+use Rattle.protocol.specs.declared.Outbound.{Outbound}
+use Rattle.opened.specs.declared.reading.ReadingMade.{ReadingMade}
+use Rattle.opened.specs.declared.writing.WritingMade.{WritingMade}
+
+abbrev pub readingMade : Reading → ReadingMade
+readingMade r = record { inbound = r .inbound; delivered = r .delivered }
+
+abbrev pub writingMade : Writing → WritingMade
+writingMade w = record { outbound = w .outbound; sent = byte (byteSent (w .sent)); taken = w .taken }
+
+-- a byte that is no Sd leaves BK of the last two Sd as it stands
+abbrev pub sendingByte : Outbound → ℕ → Half → ChannelByte → Bool → WritingMade
+sendingByte o opening due sent taken =
+    record { outbound = record { opening = opening; due = due; bk1 = o .bk1; bk2 = o .bk2 }; sent = sent; taken = taken }
