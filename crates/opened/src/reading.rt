@@ -109,10 +109,16 @@ fn word_with(w: u8, half: Half, high: u8) -> Delivered
 }
 
 // Form 0: while BK stands on, data is ignored.
+fn ignores(i: Inbound) -> bool
+    ensures { λ r. ⌜ r ≡ i .standing .bk ⌝ }
+{
+    i.standing.bk
+}
+
 fn reads_low(i: Inbound, x: u8) -> ReadingMade
     ensures { λ r. ⌜ r ≡ readingMade (cond (i .standing .bk) (quiet i) (reads i (Half.Holds x) 0 Delivered.Nothing)) ⌝ }
 {
-    if i.standing.bk {
+    if ignores(i) {
         return quiet(i);
     }
     reads(i, Half::Holds(x), 0, Delivered::Nothing)
@@ -122,7 +128,7 @@ fn reads_high(w: u8, i: Inbound, x: u8) -> ReadingMade
     ensures { λ r. ⌜ r ≡ readingMade (readsWord w i (Kind.Dh x)) ⌝ }
 {
     let half = i.half;
-    if i.standing.bk {
+    if ignores(i) {
         return quiet(i);
     }
     reads(i, Half::Empty, 0, word_with(w, half, x))
