@@ -3,3 +3,4 @@ pub mod Test
 pub mod Each
 pub mod EachBool
 pub mod Table
+pub mod Lists

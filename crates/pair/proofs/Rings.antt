@@ -9,6 +9,7 @@ use lib.Dec.{ltb}
 use lib.ListN.{length, getD, take, drop, set, replicate, length-set, length-replicate}
 use lib.Seq.{length-take-le, drop-cons, drop-length, getD-take, take-suc-set, take-set-lt, drop-set-lt}
 use borrow.Author.Tests.{ltb-true, ltb-false}
+use Rattle.ground.proofs.Lists.{take-replicate}
 use Rattle.channel.specs.Bytes.{sgidle}
 use Rattle.protocol.specs.declared.Endpoint.{Endpoint}
 use Rattle.protocol.specs.declared.Outcome.{Outcome}
@@ -102,15 +103,10 @@ module _ (d : ℕ) (p : Pair) (r : InRing d p) where
 
 -- At the start 7F is on its way in all places.
 
-first-of : (d n x : ℕ) → d ≤ n → take d (replicate n x) ≡ replicate d x
-first-of zero n x l = refl
-first-of (suc d) zero x l = absurd (omega arith)
-first-of (suc d) (suc n) x l = ap (λ xs. x ∷ xs) (first-of d n x (omega arith))
-
 module _ (d : ℕ) (delay : 0 < d) (short : d ≤ 255) (o a : Endpoint) where
   pub rings-joined : pairIn d (ringsOf o a) ≡ joined o a d
   unfolding pairIn joined
-  rings-joined = rw (append-nil, first-of d 255 sgidle short)
+  rings-joined = rw (append-nil, take-replicate d 255 sgidle short)
 
   pub rings-start : InRing d (ringsOf o a)
   rings-start =

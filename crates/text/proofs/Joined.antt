@@ -9,6 +9,7 @@ use lib.Dec.{ltb}
 use lib.ListN.{length, take, replicate, length-append}
 use lib.Seq.{take-append-add, take-append-le, set-append-seam, append-snoc}
 use borrow.Author.Tests.{lt-ltb, ltb-true, ltb-false}
+use Rattle.ground.proofs.Lists.{take-replicate}
 use Rattle.text.specs.declared.Text.{Text}
 use Rattle.text.specs.Text.{room, text, pushed, appended}
 
@@ -21,11 +22,6 @@ appended-append t (x ∷ xs) ys = appended-append (pushed t x) xs ys
 textWith : List ℕ → ℕ → Text
 textWith bytes n = record { bytes = bytes; length = n }
 
-take-replicate : (k n : ℕ) → k ≤ n → take {A = ℕ} k (replicate n 0) ≡ replicate k 0
-take-replicate zero n h = refl
-take-replicate (suc k) zero h = absurd (not-suc-le-zero h)
-take-replicate (suc k) (suc n) h = ap (λ (l : List ℕ). 0 ∷ l) (take-replicate k n (le-of-suc-le-suc h))
-
 -- characters that fit, with zeros past them
 fitting : (xs : List ℕ) (k : ℕ) → length xs + k ≡ room → text xs ≡ textWith (xs ++ replicate k 0) (length xs)
 unfolding text textWith
@@ -35,7 +31,7 @@ fitting xs k e =
     let b : take room (xs ++ replicate room 0) ≡ xs ++ replicate k 0 =
     ap (λ (m : ℕ). take m (xs ++ replicate room 0)) (sym e)
     ∙ take-append-add xs (replicate room 0) k
-    ∙ ap (λ (l : List ℕ). xs ++ l) (take-replicate k room k-fits) in
+    ∙ ap (λ (l : List ℕ). xs ++ l) (take-replicate k room 0 k-fits) in
     ap₂ textWith b (min-eq-left h)
 
 -- characters past the room leave no trace
