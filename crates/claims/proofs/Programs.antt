@@ -1,8 +1,16 @@
 -- What the programs print is whole and true. Assumes nothing.
+use mathlib.Core.Path.{refl}
+use Rattle.text.proofs.Lengths.{text-whole}
+use Rattle.pair.specs.Report.{joinSays}
 use Rattle.pair.proofs.RunsTrue.{runs-true}
 use Rattle.pair.proofs.ReportFits.{report-fits}
-use Rattle.script.proofs.Room.{any-script-fits}
+use Rattle.script.proofs.Room.{all-said}
 use Rattle.claims.specs.Programs.{ProgramsTrue}
 
 pub programs-true : ProgramsTrue
-programs-true = record { joins = runs-true; joinFits = report-fits; scriptFits = any-script-fits }
+programs-true =
+    record {
+      joins = runs-true;
+      joinWhole = λ s. text-whole (joinSays s) (report-fits s);
+      scriptWhole = λ s out room. all-said s out room refl refl;
+    }

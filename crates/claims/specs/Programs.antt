@@ -1,15 +1,19 @@
--- What the programs print is whole and true. The promise of `pair::report` is joinSays, that of `script::run` scriptSays. Assumes nothing.
+-- What the programs print is whole and true. The promise of `pair::report` is text (joinSays s), that of `script::run` a buffer with
+-- scriptSays s over it; `tjoin` and `tslot` write as much of them as the length beside them says. Assumes nothing.
+use mathlib.Core.Path.{_≡_}
 use mathlib.Core.List.{List}
-use Prim.Native.Nat.{ℕ, _*_, _≤_}
-use lib.ListN.{length}
-use Rattle.text.specs.Text.{room}
+use Prim.Native.Nat.{ℕ, _*_, _≤_, min}
+use lib.ListN.{length, take}
+use Rattle.text.specs.Text.{text}
 use Rattle.pair.specs.RunsTrue.{RunsTrue}
 use Rattle.pair.specs.Report.{joinSays}
-use Rattle.script.specs.Output.{scriptSays}
+use Rattle.script.specs.Output.{scriptSays, over}
 
 pub record ProgramsTrue : Type 0 where
   -- the run of two books is the undamaged pair of the definitions, is ended by the limits, and concludes as demand 3 says
   pub joins : RunsTrue
-  -- a text has room for what tjoin prints, and tslot's buffer for what any script says
-  pub joinFits : (s : List ℕ) → length (joinSays s) ≤ room
-  pub scriptFits : (s : List ℕ) → length (scriptSays s) ≤ 17 * 65536
+  -- what tjoin writes is all that it has to say, since a text has room for it
+  pub joinWhole : (s : List ℕ) → take (text (joinSays s) .length) (text (joinSays s) .bytes) ≡ joinSays s
+  -- so is what tslot writes, since its buffer has room for what any script says
+  pub scriptWhole : (s out : List ℕ) → 17 * 65536 ≤ length out
+      → take (min (length (scriptSays s)) (length out)) (over (scriptSays s) out) ≡ scriptSays s

@@ -2,11 +2,11 @@
 use mathlib.Core.Path.{_≡_, refl, sym, subst}
 use mathlib.Core.List.{List, _++_}
 use Prim.Native.Nat.{ℕ, _≤_, _<_}
-use native.Mathlib.Nat.{min-le-right}
+use native.Mathlib.Nat.{min-eq-left, min-le-right}
 use native.Mathlib.Omega.{arith}
 use lib.Dec.{ltb}
 use lib.ListN.{length, take, replicate, length-append, length-replicate}
-use lib.Seq.{length-take-le}
+use lib.Seq.{length-take-le, take-take, take-append-seam}
 use borrow.Author.Tests.{lt-ltb}
 use Rattle.ground.proofs.Test.{either-way}
 use Rattle.book.specs.declared.Entry.{Entry}
@@ -47,3 +47,9 @@ pub text-within : (xs : List ℕ) {t : Text} → t ≡ text xs → t .length ≤
 unfolding text
 text-within xs e =
     subst (λ (t : Text). t .length ≤ length (t .bytes)) (sym e) (rw (bytes-all xs) (min-le-right (length xs) room))
+
+-- and are all of it that was to be said, where there was room
+pub text-whole : (xs : List ℕ) → length xs ≤ room → take (text xs .length) (text xs .bytes) ≡ xs
+unfolding text
+text-whole xs fits =
+    rw (min-eq-left fits, take-take (length xs) room (xs ++ replicate room 0) fits, take-append-seam xs (replicate room 0))
