@@ -313,18 +313,20 @@ fn answered(m: Match, theirs: [u8; 5], own: [u8; 5]) -> [u8; 5]
 }
 
 // The originator's values if some entry equals them, else those of entry 0; an originator's are those of entry 0.
-fn values_sent(b: Book, h: Hearing) -> [u8; 5]
+fn values_sent(b: Book, h: Hearing, m: Match) -> [u8; 5]
+    requires { ⌜ m ≡ matched b h ⌝ }
     ensures { λ r. ⌜ r ≡ valuesSent b h ⌝ }
 {
     let own = params_of(entry_of(b, 0));
     if originates(b) {
         own
     } else {
-        answered(matched(b, h), heard_params(h), own)
+        answered(m, heard_params(h), own)
     }
 }
 
-fn byte_sent(b: Book, y: Exchange, s: Sending) -> ChannelByte
+fn byte_sent(b: Book, y: Exchange, s: Sending, m: Match) -> ChannelByte
+    requires { ⌜ m ≡ matched b (y .hearing) ⌝ }
     ensures { λ r. ⌜ r ≡ byte (byteSent (sentAs b y s)) ⌝ }
 {
     let hearing = y.hearing;
@@ -332,7 +334,7 @@ fn byte_sent(b: Book, y: Exchange, s: Sending) -> ChannelByte
         Sending::Idle => ChannelByte::SDIDLE,
         Sending::Hail(_) => ChannelByte::SGVI,
         Sending::Mask(i) => group_byte(wide(i), mask_sent(b, y.version)),
-        Sending::Parameters(i) => { parameter_byte(b, values_sent(b, hearing), i) }
+        Sending::Parameters(i) => { parameter_byte(b, values_sent(b, hearing, m), i) }
         Sending::Done => ChannelByte::SDIDLE,
     }
 }
@@ -435,7 +437,8 @@ fn last_exchanged(b: Book, y: Exchange, s: Sending) -> bool
 }
 
 // What the byte sent brings about. Originating: 21 with the sixth byte of 00; all sent and all received.
-fn fate_sent(b: Book, y: Exchange, s: Sending) -> Fate
+fn fate_sent(b: Book, y: Exchange, s: Sending, m: Match) -> Fate
+    requires { ⌜ m ≡ matched b (y .hearing) ⌝ }
     ensures { λ r. ⌜ r ≡ fateSent b y s ⌝ }
 {
     if originates(b) {
@@ -447,18 +450,18 @@ fn fate_sent(b: Book, y: Exchange, s: Sending) -> Fate
             Fate::Stays
         }
     } else if last_of_all(b, s) {
-        let hearing = y.hearing;
-        opens_on(matched(b, hearing))
+        opens_on(m)
     } else {
         Fate::Stays
     }
 }
 
-// A byte is sent.
+// A byte is sent. The entries are gone over once, for the values and for the fate.
 fn sends(b: Book, y: Exchange, s: Sending) -> TurnMade
     ensures { λ r. ⌜ r ≡ made (sends b y s) ⌝ }
 {
     let hearing = y.hearing;
+    let m = matched(b, hearing);
     let exchange = Exchange {
         hearing,
         version: y.version,
@@ -466,8 +469,8 @@ fn sends(b: Book, y: Exchange, s: Sending) -> TurnMade
     };
     TurnMade {
         exchange,
-        fate: fate_sent(b, y, s),
-        sent: byte_sent(b, y, s),
+        fate: fate_sent(b, y, s, m),
+        sent: byte_sent(b, y, s, m),
     }
 }
 

@@ -19,9 +19,6 @@ compared-requires c κs = search needs
 last-of-all-requires : tie.Need-last-of-all-requires
 last-of-all-requires c κs = search needs
 
-matched-requires : tie.Need-matched-requires
-matched-requires c κs = search needs
-
 opens-on-requires : tie.Need-opens-on-requires
 opens-on-requires c κs = search needs
 
@@ -49,7 +46,6 @@ fate-sent-spec =
     last-exchanged-requires
     compared-requires
     last-of-all-requires
-    matched-requires
     opens-on-requires
     returns
     returns-2

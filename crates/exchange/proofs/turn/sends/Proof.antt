@@ -4,6 +4,9 @@ use borrow.Author.Needs.{needs}
 use Rattle.exchange.proofs.turn.sends.Statement.{statement}
 use Rattle.exchange.proofs.turn.sends.Tie as tie
 
+matched-requires : tie.Need-matched-requires
+matched-requires c κs = search needs
+
 advanced-requires : tie.Need-advanced-requires
 advanced-requires c κs = search needs
 
@@ -18,4 +21,4 @@ unfolding sends
 returns c = simp (c .byte-sent .ensures, c .before .fate-sent .ensures, c .before .before .advanced .ensures)
 
 pub sends-spec : {M : Type 1} → statement M
-sends-spec = tie.close (tie.spec advanced-requires fate-sent-requires byte-sent-requires returns)
+sends-spec = tie.close (tie.spec matched-requires advanced-requires fate-sent-requires byte-sent-requires returns)

@@ -13,9 +13,6 @@ params-of-requires c κs = search needs
 originates-requires : tie.Need-originates-requires
 originates-requires c κs = search needs
 
-matched-requires : tie.Need-matched-requires
-matched-requires c κs = search needs
-
 heard-params-requires : tie.Need-heard-params-requires
 heard-params-requires c κs = search needs
 
@@ -26,7 +23,17 @@ returns : tie.Need-returns
 returns c = simp (sym (c .before .originates .ensures), c .before .before .params-of .ensures, c .before .before .before .entry-of .ensures, c .if1 .taken)
 
 returns-2 : tie.Need-returns-2
-returns-2 c = simp (c .answered .ensures, c .before .heard-params .ensures, c .before .before .matched .ensures, sym (c .before .before .before .before .originates .ensures), c .before .before .before .before .before .params-of .ensures, c .before .before .before .before .before .before .entry-of .ensures, c .before .before .before .if1 .left)
+returns-2 c =
+    let start = c .before .before .before .before .before .before in
+    simp (
+      c .answered .ensures,
+      c .before .heard-params .ensures,
+      start .pre,
+      sym (c .before .before .before .originates .ensures),
+      c .before .before .before .before .params-of .ensures,
+      c .before .before .before .before .before .entry-of .ensures,
+      c .before .before .if1 .left,
+    )
 
 pub values-sent-spec : {M : Type 1} → statement M
 values-sent-spec =
@@ -35,7 +42,6 @@ values-sent-spec =
     entry-of-requires
     params-of-requires
     originates-requires
-    matched-requires
     heard-params-requires
     answered-requires
     returns
