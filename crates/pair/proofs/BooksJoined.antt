@@ -15,7 +15,7 @@ use Rattle.protocol.specs.declared.Start.{Start}
 use Rattle.pair.specs.Running.{ranFor}
 use Rattle.pair.specs.Join.{rightRoles, standsOf, joinOf}
 use Rattle.pair.specs.declared.join.Joining.{Joining}
-use Rattle.pair.specs.declared.join.Joining.the-variants.{NoDelay, RefusedO, RefusedA, WrongRole}
+use Rattle.pair.specs.declared.join.Joining.the-variants.{InputRefused, RefusedO, RefusedA, WrongRole}
 
 -- What starts from the bytes of a book.
 
@@ -28,7 +28,7 @@ unfolding startOf readBook
 start-state s e fine = ap (λ (x : Start). x .state) e ∙ rw fine
 
 module _ (o a : List ℕ) (d : ℕ) where
-  pub no-delay : d ≡ 0 → NoDelay ≡ joinOf o a d
+  pub no-delay : d ≡ 0 → InputRefused ≡ joinOf o a d
   unfolding joinOf
   no-delay z = rw z
 

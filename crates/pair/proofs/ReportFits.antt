@@ -1,6 +1,6 @@
 -- No report is longer than a text has room for, so none is cut. Assumes nothing.
 use mathlib.Core.Path.{_≡_}
-use mathlib.Core.Bool.{_||_}
+use mathlib.Core.Bool.{cond, _||_}
 use mathlib.Core.List.{List}
 use Prim.Native.Nat.{ℕ, _≤_}
 use native.Mathlib.Omega.{arith}
@@ -13,7 +13,7 @@ use Rattle.protocol.specs.declared.Outcome.{Outcome}
 use Rattle.protocol.specs.declared.Outcome.the-variants.{Exchanging, Open, Refused}
 use Rattle.pair.specs.Report.{leastBytes, mostBytes, openLine, refusedLine, endLine, atFault, linesOf, joiningIn, joinSays}
 use Rattle.pair.specs.declared.join.Joining.{Joining}
-use Rattle.pair.specs.declared.join.Joining.the-variants.{NoDelay, RefusedO, RefusedA, WrongRole, Ran}
+use Rattle.pair.specs.declared.join.Joining.the-variants.{InputRefused, RefusedO, RefusedA, WrongRole, Ran}
 
 end-most : (o : Outcome) → length (endLine o) ≤ 29
 unfolding endLine openLine refusedLine
@@ -28,14 +28,12 @@ fault-most number = simp length-append (omega (arith, decimal-most number))
 
 lines-most : (j : Joining) → length (linesOf j) ≤ room
 unfolding linesOf
-lines-most NoDelay = omega arith
+lines-most InputRefused = omega arith
 lines-most (RefusedO number) = simp length-append (omega (arith, fault-most number))
 lines-most (RefusedA number) = simp length-append (omega (arith, fault-most number))
 lines-most WrongRole = omega arith
 lines-most (Ran o a) = simp length-append (omega (arith, end-most o, end-most a))
 
 pub report-fits : (s : List ℕ) → length (joinSays s) ≤ room
-unfolding joinSays linesOf
-report-fits s =
-    either-way (λ (xs : List ℕ). length xs ≤ room) (ltb (length s) leastBytes || ltb mostBytes (length s)) {x = linesOf NoDelay} {y = linesOf (joiningIn s)}
-    (lines-most NoDelay) (lines-most (joiningIn s))
+unfolding joinSays
+report-fits s = lines-most (cond (ltb (length s) leastBytes || ltb mostBytes (length s)) InputRefused (joiningIn s))

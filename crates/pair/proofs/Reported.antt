@@ -9,16 +9,16 @@ use Rattle.text.specs.Text.{text}
 use Rattle.text.specs.declared.Text.{Text}
 use Rattle.pair.specs.Report.{leastBytes, mostBytes, linesOf, joiningIn, joinSays}
 use Rattle.pair.specs.declared.join.Joining.{Joining}
-use Rattle.pair.specs.declared.join.Joining.the-variants.{NoDelay}
+use Rattle.pair.specs.declared.join.Joining.the-variants.{InputRefused}
 
 module _ (s : List ℕ) {r : Text} where
-  pub too-short : length s < leastBytes → r ≡ text (linesOf NoDelay) → r ≡ text (joinSays s)
-  unfolding joinSays linesOf
+  pub too-short : length s < leastBytes → r ≡ text (linesOf InputRefused) → r ≡ text (joinSays s)
+  unfolding joinSays
   too-short l e = rw (lt-ltb _ _ l) e
 
   module _ (long : leastBytes ≤ length s) where
-    pub too-long : mostBytes < length s → r ≡ text (linesOf NoDelay) → r ≡ text (joinSays s)
-    unfolding joinSays linesOf
+    pub too-long : mostBytes < length s → r ≡ text (linesOf InputRefused) → r ≡ text (joinSays s)
+    unfolding joinSays
     too-long l e = rw (le-ltb _ _ long, lt-ltb _ _ l) e
 
     pub joined-lines : length s ≤ mostBytes → {j : Joining} → j ≡ joiningIn s → r ≡ text (linesOf j) → r ≡ text (joinSays s)

@@ -10,7 +10,7 @@ use Rattle.protocol.specs.Slot.{started, outcomeOf}
 use Rattle.protocol.specs.Joined.{Joined, joined}
 use Rattle.pair.specs.Running.{ranFor}
 use Rattle.pair.specs.declared.join.Joining.{Joining}
-use Rattle.pair.specs.declared.join.Joining.the-variants.{NoDelay, RefusedO, RefusedA, WrongRole, Ran}
+use Rattle.pair.specs.declared.join.Joining.the-variants.{InputRefused, RefusedO, RefusedA, WrongRole, Ran}
 
 abbrev pub rightRoles : Book → Book → Bool
 rightRoles o a = eqb (o .role) originating && eqb (a .role) answering
@@ -25,7 +25,7 @@ standsOf j = Ran (outcomeOf (j .o)) (outcomeOf (j .a))
 -- a delay of 0; then a book at fault, O alone where both are; then a wrong role
 unfoldable pub joinOf : List ℕ → List ℕ → ℕ → Joining
 joinOf o a d =
-    cond (eqb d 0) NoDelay
+    cond (eqb d 0) InputRefused
     (cond (not (eqb (bookNo o) 0)) (RefusedO (bookNo o))
     (cond (not (eqb (bookNo a) 0)) (RefusedA (bookNo a))
     (cond (not (rightRoles (bookOf o) (bookOf a))) WrongRole

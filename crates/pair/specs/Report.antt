@@ -11,7 +11,7 @@ use Rattle.protocol.specs.declared.Outcome.{Outcome}
 use Rattle.protocol.specs.declared.Outcome.the-variants.{Exchanging, Open, Refused}
 use Rattle.pair.specs.Join.{joinOf}
 use Rattle.pair.specs.declared.join.Joining.{Joining}
-use Rattle.pair.specs.declared.join.Joining.the-variants.{NoDelay, RefusedO, RefusedA, WrongRole, Ran}
+use Rattle.pair.specs.declared.join.Joining.the-variants.{InputRefused, RefusedO, RefusedA, WrongRole, Ran}
 
 -- end, outcome, then for open the version, five parameters in upper-case hex and slot; for refused the number and slot
 unfoldable pub openLine : ℕ → Entry → ℕ → List ℕ
@@ -31,7 +31,7 @@ unfoldable pub atFault : ℕ → List ℕ
 atFault number = ascii " refused by number " ++ decimalOf number ++ ascii "\n"
 
 unfoldable pub linesOf : Joining → List ℕ
-linesOf NoDelay = ascii "input refused\n"
+linesOf InputRefused = ascii "input refused\n"
 linesOf (RefusedO number) = ascii "O" ++ atFault number
 linesOf (RefusedA number) = ascii "A" ++ atFault number
 linesOf WrongRole = ascii "pair refused\n"
@@ -55,5 +55,4 @@ joiningIn s =
 
 unfoldable pub joinSays : List ℕ → List ℕ
 joinSays s =
-    cond (ltb (length s) leastBytes || ltb mostBytes (length s)) (ascii "input refused\n")
-    (linesOf (joiningIn s))
+    linesOf (cond (ltb (length s) leastBytes || ltb mostBytes (length s)) InputRefused (joiningIn s))

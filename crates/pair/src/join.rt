@@ -16,8 +16,8 @@ ghost use Rattle.pair.specs.Join.{rightRoles, standsOf, joinOf};
 
 // How two books join.
 pub enum Joining {
-    // the delay is 0
-    NoDelay,
+    // the delay is 0, or, in a report, the input too short or too long
+    InputRefused,
     // the originator's book is at fault, or else the answerer's, by this number
     RefusedO(u8),
     RefusedA(u8),
@@ -58,7 +58,7 @@ pub fn join(o: &[u8], a: &[u8], delay: u8) -> Joining
     ensures { λ r. ⌜ r ≡ joinOf (now (o .entry)) (now (a .entry)) delay ⌝ }
 {
     if delay == 0 {
-        return Joining::NoDelay;
+        return Joining::InputRefused;
     }
     let start_o = start(o);
     let verdict_o = start_o.verdict;

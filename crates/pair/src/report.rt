@@ -63,7 +63,7 @@ fn lines(j: Joining) -> Text
     ensures { λ r. ⌜ r ≡ text (linesOf j) ⌝ }
 {
     match j {
-        Joining::NoDelay => word(empty(), b"input refused\n"),
+        Joining::InputRefused => word(empty(), b"input refused\n"),
         Joining::RefusedO(number) => at_fault(word(empty(), b"O"), number),
         Joining::RefusedA(number) => at_fault(word(empty(), b"A"), number),
         Joining::WrongRole => word(empty(), b"pair refused\n"),
@@ -76,10 +76,10 @@ pub fn report(s: &[u8]) -> Text
     ensures { λ r. ⌜ r ≡ text (joinSays (now (s .entry))) ⌝ }
 {
     if s.len() < LEAST_BYTES {
-        return lines(Joining::NoDelay);
+        return lines(Joining::InputRefused);
     }
     if MOST_BYTES < s.len() {
-        return lines(Joining::NoDelay);
+        return lines(Joining::InputRefused);
     }
     let last = s.len() - 1;
     lines(join(&s[0..BOOK_LENGTH], &s[BOOK_LENGTH..last], s[last]))
