@@ -29,7 +29,7 @@ by-book b slot t g (OpensSending i) = refl
 by-book b slot t g (Refuses n) = refl
 
 step-book : (e : Endpoint) (heard : ℕ) (g : Drive) (p : Phase) → stepAt e heard g p .state .book ≡ e .book
-unfolding stepAt exchangeStep openStep
+unfolding started stepAt exchangeStep openStep
 step-book e heard g (Exchanging slot version a s) =
     let t = turn (e .book) (exchangeIn e version a s) (kindOf heard) in
     by-book (e .book) slot t g (t .fate)
@@ -45,4 +45,4 @@ slot-book e heard g =
 pub book-stays : (b : Book) (heard : ℕ → ℕ) (given : ℕ → Drive) (t : ℕ) → endAt (started b) heard given t .book ≡ b
 unfolding endAt started
 book-stays b heard given zero = refl
-book-stays b heard given (suc t) = slot-book (endAt (started b) heard given t) (heard t) (given t) ∙ book-stays b heard given t
+book-stays b heard given (suc t) = slot-book (endAt (started b) heard given t) _ _ ∙ book-stays b heard given t

@@ -188,4 +188,4 @@ pub call-kept : (b : Book) → bookOk b ≡ true → (heard : ℕ → ℕ) (give
     → wellFormed (endAt (started b) heard given t) ≡ true
 unfolding endAt
 call-kept b ok heard given zero = started-kept b ok
-call-kept b ok heard given (suc t) = slot-kept (endAt (started b) heard given t) (heard t) (given t) (call-kept b ok heard given t)
+call-kept b ok heard given (suc t) = slot-kept (endAt (started b) heard given t) _ _ (call-kept b ok heard given t)
