@@ -1,3 +1,7 @@
+pub mod FigureRows
+pub mod FiguresExchange
+pub mod FiguresOpen
+pub mod FiguresRefusals
 pub mod Figures
 pub mod Segments
 pub mod Core

@@ -140,7 +140,7 @@ open-kept e slot version i line heard g ok p a =
     let e4 = both-left p4 (inboundIn s (line .inbound)) e5 in
     let o = writing-kept s (line .outbound) g (both-right p3 (outboundIn s (line .outbound)) e4) (fits-allowed e version i (g .offer) a) in
     both ok
-    (both (both (both (both-left p3 (outboundIn s (line .outbound)) e4) o) (reading-kept s (line .inbound) heard))
+    (both (both (both (both-left p3 (outboundIn s (line .outbound)) e4) o) (reading-kept s (line .inbound) heard (both-right p4 (inboundIn s (line .inbound)) e5)))
     (both-right p5 (allZero (e .nibbles)) p))
 
 -- A start, a slot, a call.

@@ -54,7 +54,7 @@ module _ (w : ℕ) (o : Outbound) (i : Inbound) (h : Shown) (g : Drive) (heard :
               signals = signalled-sd (m .signals) (g .leads) (g .flag);
               last = refl;
               off = λ p q. agreed-off (i .last .bk) (g .flag) (i .standing .bk) (m .last ∙ q) p;
-              unit = none refl refl;
+              unit = none refl (search f);
             };
         units = refl;
         delivers = refl;
