@@ -1,26 +1,22 @@
--- Each public promise admits one reply. Assumes nothing.
-use Prim.Native.Nat.{ℕ, _+_}
+-- Any two replies that a public function's promise admits are equal: read off the promises as the source states them. Assumes nothing.
 use mathlib.Core.Path.{_≡_}
-use mathlib.Core.Bool.{Bool}
-use mathlib.Core.List.{List}
-use denote.Ref.{RefT}
+use denote.Ref.{now}
 use Rattle.ground.proofs.OneReply.{one-reply}
-use Rattle.book.specs.declared.Book.{Book}
-use Rattle.book.specs.declared.Verdict.{Verdict}
-use Rattle.book.specs.declared.BookRead.{BookRead}
-use Rattle.book.specs.Reading.{numberOf, readBook, entryPart, partAt}
-use Rattle.book.specs.Kept.{bookOk}
+use Rattle.book.proofs.number.Reads as number
+use Rattle.book.proofs.read_book.Reads as read-book
+use Rattle.book.proofs.book_ok.Reads as book-ok
+use Rattle.book.proofs.entry_part.Reads as entry-part
 
-pub number-one : (v : Verdict) {r t : ℕ} → r ≡ numberOf v → t ≡ numberOf v → r ≡ t
-number-one v = one-reply (numberOf v)
+pub number-one : (a : _) (r s : _) (x y : _) → number.Post tt a r x → number.Post tt a s y → r ≡ s
+number-one a r s x y p q = one-reply _ p q
 
-pub read-book-one : (s : List ℕ) {r t : BookRead} → r ≡ readBook s → t ≡ readBook s → r ≡ t
-read-book-one s = one-reply (readBook s)
+pub read-book-one : (κs : _) (a : _) (r s : _) (x y : _) → read-book.Post κs a r x → read-book.Post κs a s y → r ≡ s
+read-book-one κs a r s x y p q = one-reply _ (p .0) (q .0)
 
-pub book-ok-one : (b : Book) {r t : Bool} → r ≡ bookOk b → t ≡ bookOk b → r ≡ t
-book-ok-one b = one-reply (bookOk b)
+pub book-ok-one : (a : _) (r s : _) (x y : _) → book-ok.Post tt a r x → book-ok.Post tt a s y → r ≡ s
+book-ok-one a r s x y p q = one-reply _ p q
 
 -- the same bytes at the same place
-pub entry-part-one : (s : RefT (List ℕ)) (i : ℕ) (r t : RefT (List ℕ)) → r .now ≡ entryPart (s .now) i → t .now ≡ entryPart (s .now) i → r .ptr ≡ (s .ptr .0, s .ptr .1 + partAt (s .now) i) → t .ptr ≡ (s .ptr .0, s .ptr .1 + partAt (s .now) i) → (r .now ≡ t .now) × (r .ptr ≡ t .ptr)
-entry-part-one s i r t p q h k =
-    (one-reply (entryPart (s .now) i) p q, one-reply (s .ptr .0, s .ptr .1 + partAt (s .now) i) h k)
+pub entry-part-one : (κs : _) (a : _) (r s : _) (x y : _) → entry-part.Post κs a r x → entry-part.Post κs a s y
+    → (now r ≡ now s) × (r .ptr ≡ s .ptr)
+entry-part-one κs a r s x y p q = (one-reply _ (p .0) (q .0), one-reply _ (p .1) (q .1))

@@ -7,35 +7,36 @@ use mathlib.Core.List.{List, [], _∷_, _++_, map}
 use lib.ListN.{length, take, replicate, set}
 use Rattle.book.specs.declared.Entry.{Entry}
 use Rattle.book.specs.declared.Book.{Book}
-use Rattle.book.specs.Book.{entriesOf, keptEntries, noEntry}
+use Rattle.book.specs.declared.Verdict.the-variants.{Accepted, Refused}
+use Rattle.book.specs.Book.{entriesOf, keptEntries, paramsOf, wordBytes, entriesBytes, bookBytes}
 use Rattle.book.specs.Refusals.{startNo, valuesNo, lengthNo, seenIn, entryNo, eachNo, entriesNo, bookNo}
-use Rattle.book.specs.Reading.{accepts, refuses, readBook, hasEntry, entryPart, partAt}
+use Rattle.book.specs.Reading.{numberOf, readBook, hasEntry, entryPart, partAt}
 use Rattle.book.specs.Kept.{allNone, isPadded, bookOk}
 
 -- "TLB", version, role, mask, limit, count
-abbrev header : ℕ → ℕ → ℕ → ℕ → ℕ → List ℕ
+abbrev pub header : ℕ → ℕ → ℕ → ℕ → ℕ → List ℕ
 header version role mask limit n =
     84 ∷ 76 ∷ 66 ∷ version / 256 ∷ version % 256 ∷ role ∷ mask ∷ limit / 256 ∷ limit % 256 ∷ n ∷ []
 
 -- an entry whose parameters are p, 2, 3, 4 and q
-abbrev entry : ℕ → ℕ → ℕ → ℕ → List ℕ
+abbrev pub entry : ℕ → ℕ → ℕ → ℕ → List ℕ
 entry p q form w = p ∷ 2 ∷ 3 ∷ 4 ∷ q ∷ form ∷ w ∷ []
 
 -- an originating book with this one entry, and an answering one with so many
-abbrev one : ℕ → List ℕ → List ℕ
+abbrev pub one : ℕ → List ℕ → List ℕ
 one mask e = header 1 0 mask 500 1 ++ e
 
-abbrev several : ℕ → ℕ → List ℕ → List ℕ
+abbrev pub several : ℕ → ℕ → List ℕ → List ℕ
 several mask n es = header 1 1 mask 500 n ++ es
 
 -- six entries that differ
-abbrev six : List ℕ
+abbrev pub six : List ℕ
 six = entry 1 5 7 0 ++ entry 2 5 7 0 ++ entry 3 5 7 0 ++ entry 4 5 7 0 ++ entry 5 5 7 0 ++ entry 6 5 7 0
 
-abbrev good : List ℕ
+abbrev pub good : List ℕ
 good = one 3 (entry 1 5 7 0)
 
-abbrev cases : List (List ℕ × ℕ)
+abbrev pub cases : List (List ℕ × ℕ)
 cases =
     (good, 0)
     -- 1: fewer than 10 bytes; fewer than 10+7n
@@ -88,8 +89,12 @@ cases =
     ∷ (one 1 (entry 1 5 8 0), 9)
     ∷ (one 2 (entry 1 5 8 0), 0)
     ∷ (one 3 (entry 1 5 8 0), 9)
-    -- 10: another form does not help; the fifth parameter counts; the last pair counts, and so do the first and the last
+    -- 10: another form does not help; each of the five parameters counts; the last pair counts, and so do the first and the last
     ∷ (several 3 2 (entry 1 5 7 0 ++ entry 1 5 6 0), 10)
+    ∷ (several 3 2 (entry 1 5 7 0 ++ entry 2 5 7 0), 0)
+    ∷ (several 3 2 (entry 1 5 7 0 ++ (1 ∷ 9 ∷ 3 ∷ 4 ∷ 5 ∷ 7 ∷ 0 ∷ [])), 0)
+    ∷ (several 3 2 (entry 1 5 7 0 ++ (1 ∷ 2 ∷ 9 ∷ 4 ∷ 5 ∷ 7 ∷ 0 ∷ [])), 0)
+    ∷ (several 3 2 (entry 1 5 7 0 ++ (1 ∷ 2 ∷ 3 ∷ 9 ∷ 5 ∷ 7 ∷ 0 ∷ [])), 0)
     ∷ (several 3 2 (entry 1 5 7 0 ++ entry 1 6 7 0), 0)
     ∷ (several 3 2 (entry 0 0 7 0 ++ entry 0 0 7 0), 10)
     ∷ (several 3 8 (six ++ entry 7 5 7 0 ++ entry 7 5 7 0), 10)
@@ -115,24 +120,28 @@ cases =
     ∷ (several 3 3 (entry 1 5 7 0 ++ entry 1 5 7 0 ++ entry 2 5 5 0), 10)
     ∷ []
 
-pub numbers-hold : map (λ (c : List ℕ × ℕ). bookNo (c .0)) cases ≡ map (λ (c : List ℕ × ℕ). c .1) cases
+numbers-hold : map (λ (c : List ℕ × ℕ). bookNo (c .0)) cases ≡ map (λ (c : List ℕ × ℕ). c .1) cases
 unfolding bookNo startNo valuesNo lengthNo entriesNo eachNo entryNo seenIn entriesOf keptEntries
 numbers-hold = refl
 
 -- Kept books.
 
-abbrev profile : ℕ → ℕ → ℕ → ℕ → Entry
+abbrev pub profile : ℕ → ℕ → ℕ → ℕ → Entry
 profile p q form w = record { p0 = p; p1 = 2; p2 = 3; p3 = 4; p4 = q; form = form; w = w }
 
--- with nothing past the entries given
-abbrev keeps : ℕ → ℕ → ℕ → ℕ → List Entry → Book
-keeps role mask limit n es =
-    record { role = role; mask = mask; limit = limit; n = n; entries = es ++ replicate (8 - length es) noEntry }
+-- what stands past the entries
+abbrev pub nothing : Entry
+nothing = record { p0 = 0; p1 = 0; p2 = 0; p3 = 0; p4 = 0; form = 0; w = 0 }
 
-abbrev seven : List Entry
+-- with nothing past the entries given
+abbrev pub keeps : ℕ → ℕ → ℕ → ℕ → List Entry → Book
+keeps role mask limit n es =
+    record { role = role; mask = mask; limit = limit; n = n; entries = es ++ replicate (8 - length es) nothing }
+
+abbrev pub seven : List Entry
 seven = profile 1 5 7 0 ∷ profile 2 5 7 0 ∷ profile 3 5 7 0 ∷ profile 4 5 7 0 ∷ profile 5 5 7 0 ∷ profile 6 5 7 0 ∷ profile 7 5 7 0 ∷ []
 
-abbrev keptCases : List (Book × Bool)
+abbrev pub keptCases : List (Book × Bool)
 keptCases =
     (keeps 0 3 500 1 (profile 1 5 7 0 ∷ []), true)
     ∷ (keeps 1 3 425 2 (profile 1 5 0 8 ∷ profile 1 6 6 0 ∷ []), true)
@@ -150,40 +159,69 @@ keptCases =
     ∷ (keeps 1 3 500 8 (seven ++ (profile 7 5 7 0 ∷ [])), false)
     -- what stands past them
     ∷ (keeps 1 3 500 1 (profile 1 5 7 0 ∷ profile 2 5 7 0 ∷ []), false)
-    ∷ (keeps 0 3 500 1 (profile 1 5 7 0 ∷ noEntry ∷ record { p0 = 0; p1 = 0; p2 = 0; p3 = 0; p4 = 0; form = 0; w = 1 } ∷ []), false)
+    ∷ (keeps 0 3 500 1 (profile 1 5 7 0 ∷ nothing ∷ record { p0 = 0; p1 = 0; p2 = 0; p3 = 0; p4 = 0; form = 0; w = 1 } ∷ []), false)
     ∷ (keeps 1 3 500 7 (seven ++ (profile 8 5 7 0 ∷ [])), false)
     ∷ (record { role = 0; mask = 3; limit = 500; n = 1; entries = profile 1 5 7 0 ∷ [] }, false)
     ∷ []
 
-pub kept-hold : map (λ (c : Book × Bool). bookOk (c .0)) keptCases ≡ map (λ (c : Book × Bool). c .1) keptCases
+kept-hold : map (λ (c : Book × Bool). bookOk (c .0)) keptCases ≡ map (λ (c : Book × Bool). c .1) keptCases
 unfolding bookOk isPadded allNone valuesNo entriesNo eachNo entryNo seenIn
 kept-hold = refl
 
 -- The replies.
 
-abbrev two : List ℕ
-two = several 3 2 (entry 1 5 7 0 ++ entry 2 5 0 8)
+abbrev pub two : List ℕ
+two = several 3 2 (entry 1 5 7 0 ++ entry 2 6 0 8)
+
+abbrev pub keptTwo : Book
+keptTwo = keeps 1 3 500 2 (profile 1 5 7 0 ∷ profile 2 6 0 8 ∷ [])
 
 pub record Replies : Type 0 where
-  pub accepted : readBook two ≡ accepts (keeps 1 3 500 2 (profile 1 5 7 0 ∷ profile 2 5 0 8 ∷ []))
-  pub refused : readBook (take 23 two) ≡ refuses 1
+  pub accepted : readBook two ≡ record { verdict = Accepted; book = keptTwo }
+  -- a refusal yields the number alone
+  pub refused : readBook (take 23 two)
+      ≡ record { verdict = Refused 1; book = record { role = 0; mask = 0; limit = 0; n = 0; entries = replicate 8 nothing } }
+  pub numbers : map numberOf (Accepted ∷ Refused 1 ∷ Refused 11 ∷ []) ≡ 0 ∷ 1 ∷ 11 ∷ []
+  -- entry i, counted from 0: those seven bytes of the book
   pub first : entryPart two 0 ≡ entry 1 5 7 0
-  pub second : entryPart two 1 ≡ entry 2 5 0 8
-  pub place : partAt two 1 ≡ 17
-  pub beyond : entryPart two 2 ≡ []
+  pub second : entryPart two 1 ≡ entry 2 6 0 8
+  pub places : map (partAt two) (0 ∷ 1 ∷ []) ≡ 10 ∷ 17 ∷ []
+  -- for a refused book, or i not below n, an empty part
+  pub beyond : map (entryPart two) (2 ∷ 3 ∷ []) ≡ [] ∷ [] ∷ []
+  pub place-beyond : partAt two 2 ≡ 0
   pub of-refused : entryPart (take 23 two) 0 ≡ []
   pub place-refused : partAt (take 23 two) 0 ≡ 0
+  -- numbers are big-endian; the five parameters; the book written out again
+  pub words : map wordBytes (1 ∷ 425 ∷ 512 ∷ 65535 ∷ []) ≡ (0 ∷ 1 ∷ []) ∷ (1 ∷ 169 ∷ []) ∷ (2 ∷ 0 ∷ []) ∷ (255 ∷ 255 ∷ []) ∷ []
+  pub parameters : paramsOf (profile 1 5 7 0) ≡ 1 ∷ 2 ∷ 3 ∷ 4 ∷ 5 ∷ []
+  pub written : bookBytes keptTwo ≡ two
 
-pub replies-hold : Replies
-unfolding readBook entryPart partAt hasEntry bookNo startNo valuesNo lengthNo entriesNo eachNo entryNo seenIn entriesOf keptEntries
+replies-hold : Replies
+unfolding
+    readBook entryPart partAt hasEntry bookNo startNo valuesNo lengthNo entriesNo eachNo entryNo seenIn entriesOf keptEntries entriesBytes
+    bookBytes
 replies-hold =
     record {
       accepted = refl;
       refused = refl;
+      numbers = refl;
       first = refl;
       second = refl;
-      place = refl;
+      places = refl;
       beyond = refl;
+      place-beyond = refl;
       of-refused = refl;
       place-refused = refl;
+      words = refl;
+      parameters = refl;
+      written = refl;
     }
+
+-- All of these.
+pub record BookFigures : Type 0 where
+  pub numbers : map (λ (c : List ℕ × ℕ). bookNo (c .0)) cases ≡ map (λ (c : List ℕ × ℕ). c .1) cases
+  pub kept : map (λ (c : Book × Bool). bookOk (c .0)) keptCases ≡ map (λ (c : Book × Bool). c .1) keptCases
+  pub replies : Replies
+
+pub book-figures : BookFigures
+book-figures = record { numbers = numbers-hold; kept = kept-hold; replies = replies-hold }

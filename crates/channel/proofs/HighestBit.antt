@@ -1,9 +1,9 @@
 -- The highest set bit of the AND of two masks is the highest that both have. Assumes nothing.
 use mathlib.Core.Path.{_≡_, refl, sym, _∙_}
 use mathlib.Core.Bool.{cond, _&&_, Bool·beq}
-use Prim.Native.Nat.{ℕ, zero, suc, _+_, _/_, _^_, _<_}
+use Prim.Native.Nat.{ℕ, zero, suc, _+_, _<_}
 use native.Mathlib.Omega.{arith}
-use lib.Bits.{bitAnd, and-shr, and-mod}
+use lib.Bits.{bitAnd}
 use lib.Dec.{eqb, leb}
 use borrow.Author.Tests.{ne-eqb}
 use Rattle.ground.specs.Digits.{bit}
@@ -11,6 +11,7 @@ use Rattle.ground.proofs.Test.{same-flag}
 use Rattle.ground.proofs.Each.{upTo, each, each-eq}
 use Rattle.channel.specs.Versions.{bothHave, highestUpTo, highest, shared}
 use Rattle.channel.specs.declared.version.Shared.the-variants.{Version, Nothing}
+use Rattle.channel.proofs.BitByBit.{bit-and}
 
 -- how many of the bits' values a mask reaches
 abbrev pub reached : ℕ → ℕ
@@ -29,9 +30,6 @@ of-bits x y p q =
     same-flag (eqb (bitAnd x y) 1 && eqb (bitAnd x y) 1) (eqb x 1 && eqb y 1)
     (each (λ y. Bool·beq (eqb (bitAnd x y) 1 && eqb (bitAnd x y) 1) (eqb x 1 && eqb y 1)) 2
     (each (λ x. upTo (λ y. Bool·beq (eqb (bitAnd x y) 1 && eqb (bitAnd x y) 1) (eqb x 1 && eqb y 1)) 2) 2 tt x p) y q)
-
-bit-and : (i a b : ℕ) → bit i (bitAnd a b) ≡ bitAnd (bit i a) (bit i b)
-bit-and i a b = rw (and-shr a b i) (and-mod (a / 2 ^ i) (b / 2 ^ i) 1)
 
 have-and : (i a b : ℕ) → bothHave i (bitAnd a b) (bitAnd a b) ≡ bothHave i a b
 have-and i a b = rw (bit-and i a b) (of-bits (bit i a) (bit i b) (omega arith) (omega arith))

@@ -31,7 +31,7 @@ pub dh-one : (a : _) (r s : _) (x y : _) → dh.Post tt a r x → dh.Post tt a s
 dh-one a r s x y p q = one-reply _ p q
 
 pub kind-one : (a : _) (r s : _) (x y : _) → kind.Post tt a r x → kind.Post tt a s y → r ≡ s
-kind-one a r s x y p q = one-reply _ p q
+kind-one a r s x y p q = one-reply _ (p .0) (q .0)
 
 pub fits-one : (a : _) (r s : _) (x y : _) → fits.Post tt a r x → fits.Post tt a s y → r ≡ s
 fits-one a r s x y p q = one-reply _ p q
@@ -40,7 +40,7 @@ pub unit-byte-one : (a : _) (r s : _) (x y : _) → unit-byte.Post tt a r x → 
 unit-byte-one a r s x y p q = one-reply _ p q
 
 pub encode-one : (a : _) (r s : _) (x y : _) → encode.Post tt a r x → encode.Post tt a s y → r ≡ s
-encode-one a r s x y p q = one-reply _ p q
+encode-one a r s x y p q = one-reply _ (p .0) (q .0)
 
 pub is-data-one : (a : _) (r s : _) (x y : _) → is-data.Post tt a r x → is-data.Post tt a s y → r ≡ s
 is-data-one a r s x y p q = one-reply _ p q
@@ -49,19 +49,19 @@ pub unit-in-one : (a : _) (r s : _) (x y : _) → unit-in.Post tt a r x → unit
 unit-in-one a r s x y p q = one-reply _ p q
 
 pub decode-one : (a : _) (r s : _) (x y : _) → decode.Post tt a r x → decode.Post tt a s y → r ≡ s
-decode-one a r s x y p q = one-reply _ p q
+decode-one a r s x y p q = one-reply _ (p .0) (q .0)
 
 pub word-fits-one : (a : _) (r s : _) (x y : _) → word-fits.Post tt a r x → word-fits.Post tt a s y → r ≡ s
 word-fits-one a r s x y p q = one-reply _ p q
 
 pub encode-word-one : (a : _) (r s : _) (x y : _) → encode-word.Post tt a r x → encode-word.Post tt a s y → r ≡ s
-encode-word-one a r s x y p q = one-reply _ p q
+encode-word-one a r s x y p q = one-reply _ (p .0) (q .0)
 
 pub word-of-one : (a : _) (r s : _) (x y : _) → word-of.Post tt a r x → word-of.Post tt a s y → r ≡ s
 word-of-one a r s x y p q = one-reply _ p q
 
 pub shared-version-one : (a : _) (r s : _) (x y : _) → shared-version.Post tt a r x → shared-version.Post tt a s y → r ≡ s
-shared-version-one a r s x y p q = one-reply _ p q
+shared-version-one a r s x y p q = one-reply _ (p .0) (q .0)
 
 pub vote-one : (a : _) (r s : _) (x y : _) → vote.Post tt a r x → vote.Post tt a s y → r ≡ s
 vote-one a r s x y p q = one-reply _ p q

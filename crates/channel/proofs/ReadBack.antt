@@ -57,10 +57,11 @@ pub dh-read : (v : ℕ) → v < 256 → kindOf (dhByte v) ≡ Dh (v / 16)
 unfolding kindOf kindFrom
 dh-read v h = rw (dh-number v h) (ap Dh (dh-nibble v h))
 
--- an Sd: its number, and each of its five bits
-abbrev lead : Bool → Bool → Bool → Bool → Leads
+-- the leads s3 s2 s1 s0
+abbrev pub lead : Bool → Bool → Bool → Bool → Leads
 lead a b c d = record { s0 = d; s1 = c; s2 = b; s3 = a }
 
+-- an Sd: its number, and each of its five bits
 flag-back : (f : Bool) (n : ℕ) → n ≡ bitOf f → eqb n 1 ≡ f
 flag-back true n e = rw e
 flag-back false n e = rw e

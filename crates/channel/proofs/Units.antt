@@ -1,4 +1,4 @@
--- The byte of a unit and the unit of a byte, as the code computes them; each by one computed test over the 256 bytes. Assumes nothing.
+-- The values of a unit's byte and of the unit in a byte; each by one computed test over the 256 bytes. Assumes nothing.
 use mathlib.Core.Path.{_≡_, sym}
 use mathlib.Core.Bool.{true}
 use Prim.Native.Nat.{ℕ, _+_, _*_, _/_, _%_, _<_}
@@ -23,35 +23,36 @@ unfolding unitByte laid val
 turned-is x h = each-eq turned (unitByte Eight) 256 tt x h
 
 module _ (u : ℕ) (h : u < 256) where
-  pub byte-six : u % 64 * 4 + 1 ≡ unitByte Six u
+  pub byte-six : unitByte Six u ≡ 4 * (u % 64) + 1
   unfolding unitByte laid val
-  byte-six = each-eq (λ u. u % 64 * 4 + 1) (unitByte Six) 256 tt u h
+  byte-six = each-eq (unitByte Six) (λ u. 4 * (u % 64) + 1) 256 tt u h
 
-  pub byte-seven-v1 : u % 128 * 2 + 1 ≡ unitByte SevenV1 u
+  pub byte-seven-v1 : unitByte SevenV1 u ≡ 2 * (u % 128) + 1
   unfolding unitByte laid val
-  byte-seven-v1 = each-eq (λ u. u % 128 * 2 + 1) (unitByte SevenV1) 256 tt u h
+  byte-seven-v1 = each-eq (unitByte SevenV1) (λ u. 2 * (u % 128) + 1) 256 tt u h
 
-  pub byte-seven-v2 : unitByte Eight (u % 128 + 128) ≡ unitByte SevenV2 u
+  -- the seven bits and a bit that is on, the other way round
+  pub byte-seven-v2 : {r x : ℕ} → r ≡ unitByte Eight x → x ≡ u % 128 + 128 → r ≡ unitByte SevenV2 u
   unfolding unitByte laid val
-  byte-seven-v2 = each-eq (λ u. unitByte Eight (u % 128 + 128)) (unitByte SevenV2) 256 tt u h
+  byte-seven-v2 t e = rw (t, e) (each-eq (λ u. unitByte Eight (u % 128 + 128)) (unitByte SevenV2) 256 tt u h)
 
   pub fits-eight : true ≡ fits Eight u
   unfolding fits
   fits-eight = sym (lt-ltb u 256 h)
 
 module _ (b : ℕ) (h : b < 256) where
-  pub unit-six : b / 4 ≡ unitIn Six b
+  pub unit-six : unitIn Six b ≡ b / 4
   unfolding unitIn val
-  unit-six = each-eq (λ b. b / 4) (unitIn Six) 256 tt b h
+  unit-six = each-eq (unitIn Six) (λ b. b / 4) 256 tt b h
 
-  pub unit-seven-v1 : b / 2 ≡ unitIn SevenV1 b
+  pub unit-seven-v1 : unitIn SevenV1 b ≡ b / 2
   unfolding unitIn val
-  unit-seven-v1 = each-eq (λ b. b / 2) (unitIn SevenV1) 256 tt b h
+  unit-seven-v1 = each-eq (unitIn SevenV1) (λ b. b / 2) 256 tt b h
 
-  pub unit-seven-v2 : unitByte Eight b % 128 ≡ unitIn SevenV2 b
+  pub unit-seven-v2 : unitIn SevenV2 b ≡ unitByte Eight b % 128
   unfolding unitByte unitIn laid val
-  unit-seven-v2 = each-eq (λ b. unitByte Eight b % 128) (unitIn SevenV2) 256 tt b h
+  unit-seven-v2 = each-eq (unitIn SevenV2) (λ b. unitByte Eight b % 128) 256 tt b h
 
-  pub unit-eight : unitByte Eight b ≡ unitIn Eight b
+  pub unit-eight : unitIn Eight b ≡ unitByte Eight b
   unfolding unitByte unitIn laid val
-  unit-eight = each-eq (unitByte Eight) (unitIn Eight) 256 tt b h
+  unit-eight = each-eq (unitIn Eight) (unitByte Eight) 256 tt b h

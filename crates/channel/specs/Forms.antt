@@ -88,3 +88,13 @@ saysEncodedWord word.OutOfRange = 12 ∷ []
 abbrev pub saysDecoded : Decoded → List ℕ
 saysDecoded (Unit u) = u ∷ []
 saysDecoded NoData = []
+
+-- what they have to say
+abbrev pub encodedInNumbers : Form → ℕ → List ℕ
+encodedInNumbers f u = cond (fits f u) (0 ∷ unitByte f u ∷ []) (12 ∷ [])
+
+abbrev pub wordInNumbers : ℕ → ℕ → List ℕ
+wordInNumbers w v = cond (wordFits w v) (0 ∷ dlByte v ∷ dhByte v ∷ []) (12 ∷ [])
+
+abbrev pub decodedInNumbers : Form → ℕ → List ℕ
+decodedInNumbers f b = cond (isData f b) (unitIn f b ∷ []) []

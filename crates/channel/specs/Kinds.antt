@@ -68,6 +68,14 @@ saysKind (Dh x) = 2 ∷ x ∷ []
 saysKind (Sd s bk) = 3 ∷ bitOf (s .s3) ∷ bitOf (s .s2) ∷ bitOf (s .s1) ∷ bitOf (s .s0) ∷ bitOf bk ∷ []
 saysKind Other = 0 ∷ []
 
+-- what the kind of a byte has to say
+unfoldable pub kindInNumbers : ℕ → List ℕ
+kindInNumbers b =
+    cond (isDl b) (1 ∷ nibbleIn b ∷ [])
+    (cond (isDh b) (2 ∷ nibbleIn b ∷ [])
+    (cond (isSd b) (3 ∷ B 1 b ∷ B 2 b ∷ B 3 b ∷ B 4 b ∷ B 5 b ∷ [])
+    (cond (leb (kindNumber b) 9) (kindNumber b ∷ []) (0 ∷ []))))
+
 -- how many of the 128 codes, counted without B8, the table gives the number k
 unfoldable pub howMany : ℕ → ℕ → ℕ
 howMany k zero = 0

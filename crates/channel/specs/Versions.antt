@@ -26,3 +26,7 @@ shared a b = cond (eqb (highest a b) 0) Nothing (Version (highest a b))
 abbrev pub saysShared : Shared → List ℕ
 saysShared (Version v) = 0 ∷ v ∷ []
 saysShared Nothing = 21 ∷ []
+
+-- what it has to say
+abbrev pub sharedInNumbers : ℕ → ℕ → List ℕ
+sharedInNumbers a b = cond (eqb (highest a b) 0) (21 ∷ []) (0 ∷ highest a b ∷ [])

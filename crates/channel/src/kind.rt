@@ -3,7 +3,7 @@ use crate::byte::ChannelByte;
 use crate::byte::Leads;
 use crate::kind_table::KINDS;
 ghost use mathlib.Core.Path.{_≡_};
-ghost use Rattle.channel.specs.Kinds.{kindNumber, leadsIn, kindOf};
+ghost use Rattle.channel.specs.Kinds.{kindNumber, leadsIn, kindOf, saysKind, kindInNumbers};
 
 // What a received byte is during the exchange. B8 is ignored.
 pub enum Kind {
@@ -40,6 +40,7 @@ fn leads_in(b: u8) -> Leads
 impl ChannelByte {
     pub fn kind(self) -> Kind
         ensures { λ r. ⌜ r ≡ kindOf (self .0) ⌝ }
+        ensures says { λ r. ⌜ saysKind r ≡ kindInNumbers (self .0) ⌝ }
     {
         let b = self.0;
         let n = kind_number(b);

@@ -1,9 +1,11 @@
 // Units of data on the channel: the byte of a unit and the unit of a byte.
 use crate::byte::ChannelByte;
 ghost use mathlib.Core.Path.{_≡_};
+ghost use mathlib.Core.Bool.{cond};
 ghost use Prim.Native.Nat.{_<_, _^_};
 ghost use Rattle.channel.specs.Bytes.{byte};
 ghost use Rattle.channel.specs.Forms.{fits, unitByte, encoded, isData, unitIn, decoded, wordFits, encodedWord, wordOf};
+ghost use Rattle.channel.specs.Forms.{saysEncoded, saysEncodedWord, saysDecoded, encodedInNumbers, wordInNumbers, decodedInNumbers};
 
 // A form whose unit is one byte: form 6, form 7 on version 1, form 7 on version 2, form 8.
 pub enum Form {
@@ -54,20 +56,41 @@ fn reversed(x: u8) -> u8
         + x / 128
 }
 
+// The seven bits of a unit from B1 on, d6 first or, turned, d0 first; then B8 on.
+fn seven(unit: u8, turned: bool) -> u8
+    ensures { λ r. ⌜ r ≡ cond turned (unitByte Form.SevenV2 unit) (unitByte Form.SevenV1 unit) ⌝ }
+{
+    if turned {
+        return reversed(unit % 128 + 128);
+    }
+    unit % 128 * 2 + 1
+}
+
+// The unit in B1 to B7, d6 first or, turned, d0 first.
+fn seven_in(b: u8, turned: bool) -> u8
+    ensures { λ r. ⌜ r ≡ cond turned (unitIn Form.SevenV2 b) (unitIn Form.SevenV1 b) ⌝ }
+{
+    if turned {
+        return reversed(b) % 128;
+    }
+    b / 2
+}
+
 // The byte of a unit. Of a unit that the form does not have, the bits that it does have are taken.
 pub fn unit_byte(f: Form, unit: u8) -> ChannelByte
     ensures { λ r. ⌜ r ≡ byte (unitByte f unit) ⌝ }
 {
     match f {
         Form::Six => ChannelByte(unit % 64 * 4 + 1),
-        Form::SevenV1 => ChannelByte(unit % 128 * 2 + 1),
-        Form::SevenV2 => ChannelByte(reversed(unit % 128 + 128)),
+        Form::SevenV1 => ChannelByte(seven(unit, false)),
+        Form::SevenV2 => ChannelByte(seven(unit, true)),
         Form::Eight => ChannelByte(reversed(unit)),
     }
 }
 
 pub fn encode(f: Form, unit: u8) -> Encoded
     ensures { λ r. ⌜ r ≡ encoded f unit ⌝ }
+    ensures says { λ r. ⌜ saysEncoded r ≡ encodedInNumbers f unit ⌝ }
 {
     if fits(f, unit) {
         Encoded::Byte(unit_byte(f, unit))
@@ -94,14 +117,15 @@ pub fn unit_in(f: Form, b: ChannelByte) -> u8
 {
     match f {
         Form::Six => b.0 / 4,
-        Form::SevenV1 => b.0 / 2,
-        Form::SevenV2 => reversed(b.0) % 128,
+        Form::SevenV1 => seven_in(b.0, false),
+        Form::SevenV2 => seven_in(b.0, true),
         Form::Eight => reversed(b.0),
     }
 }
 
 pub fn decode(f: Form, b: ChannelByte) -> Decoded
     ensures { λ r. ⌜ r ≡ decoded f (b .0) ⌝ }
+    ensures says { λ r. ⌜ saysDecoded r ≡ decodedInNumbers f (b .0) ⌝ }
 {
     if is_data(f, b) {
         Decoded::Unit(unit_in(f, b))
@@ -132,6 +156,7 @@ pub fn word_fits(w: u8, value: u8) -> bool
 // A word as a DL and a DH.
 pub fn encode_word(w: u8, value: u8) -> EncodedWord
     ensures { λ r. ⌜ r ≡ encodedWord w value ⌝ }
+    ensures says { λ r. ⌜ saysEncodedWord r ≡ wordInNumbers w value ⌝ }
 {
     if word_fits(w, value) {
         EncodedWord::Pair(ChannelByte::dl(value), ChannelByte::dh(value))

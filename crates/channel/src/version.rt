@@ -3,7 +3,7 @@ ghost use mathlib.Core.Path.{_≡_};
 ghost use mathlib.Core.Bool.{cond};
 ghost use Prim.Native.Nat.{_≤_};
 ghost use lib.Dec.{leb};
-ghost use Rattle.channel.specs.Versions.{shared, highest};
+ghost use Rattle.channel.specs.Versions.{shared, highest, saysShared, sharedInNumbers};
 
 pub enum Shared {
     Version(u8),
@@ -34,6 +34,7 @@ fn highest(mask: u8) -> u8
 // Both masks are ANDed; the highest set bit wins, bit 0 being version 1.
 pub fn shared_version(a: u8, b: u8) -> Shared
     ensures { λ r. ⌜ r ≡ shared a b ⌝ }
+    ensures says { λ r. ⌜ saysShared r ≡ sharedInNumbers a b ⌝ }
 {
     let version = highest(a & b);
     if version == 0 {

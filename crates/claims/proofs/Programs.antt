@@ -5,6 +5,7 @@ use Rattle.pair.specs.Report.{joinSays}
 use Rattle.pair.proofs.RunsTrue.{runs-true}
 use Rattle.pair.proofs.ReportFits.{report-fits}
 use Rattle.script.proofs.Room.{all-said}
+use Rattle.script.proofs.SaysTrue.{says-true}
 use Rattle.claims.specs.Programs.{ProgramsTrue}
 
 pub programs-true : ProgramsTrue
@@ -12,5 +13,6 @@ programs-true =
     record {
       joins = runs-true;
       joinWhole = λ s. text-whole (joinSays s) (report-fits s);
+      scripts = says-true;
       scriptWhole = λ s out room. all-said s out room refl refl;
     }

@@ -16,7 +16,7 @@ use Rattle.claims.specs.Books.{BookAnswered, BooksUndone}
 use Rattle.claims.specs.Packing.{packNumbers, unpackNumbers, Answers, PackingUndone}
 use Rattle.claims.specs.Channel.{ChannelAnswered, UnitsUndone}
 use Rattle.claims.specs.OneEnd.{AnswersAll, CallHolds}
-use Rattle.claims.specs.JoinedPair.{JoinsAsPromised}
+use Rattle.claims.specs.JoinedPair.{JoinsAsPromised, OneOfThree}
 
 -- Every input has a defined reply. Any book, octet, channel byte and stored state: bad ones are refused under a fixed number, no caller has
 -- to check first, and what is refused changes neither the call nor a lent buffer.
@@ -36,6 +36,9 @@ pub record Demand2 : Type 0 where
   pub units : UnitsUndone
   pub books : BooksUndone
 
--- Two ends joined by a channel; the premises are those of JoinedPair, and no more.
+-- Two ends joined by a channel open alike by a bound of slots on the highest shared version and the originator's profile and deliver each
+-- unit taken once, in order, unchanged; or neither opens and both refuse with the same true reason. The premises are those of JoinedPair,
+-- and no more.
 abbrev pub Demand3 : Type 0
-Demand3 = (d : ℕ) (bo ba : Book) (go ga : ℕ → Drive) (ho ha : ℕ → ℕ) → JoinedPair d bo ba go ga ho ha → JoinsAsPromised d bo ba go ga ho ha
+Demand3 = (d : ℕ) (bo ba : Book) (go ga : ℕ → Drive) (ho ha : ℕ → ℕ) → JoinedPair d bo ba go ga ho ha
+    → JoinsAsPromised d bo ba go ga ho ha × OneOfThree d bo ba go ga ho ha

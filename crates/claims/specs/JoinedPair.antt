@@ -1,6 +1,7 @@
 -- Two ends joined by a channel: what is promised of them, and that the premises of that are met. Assumes nothing.
 use mathlib.Core.Path.{_≡_}
 use mathlib.Core.Bool.{false}
+use mathlib.Core.Logic.{_⊎_}
 use Prim.Native.Nat.{ℕ, _+_, _*_, _/_, _%_, _≤_, _<_}
 use Rattle.book.specs.declared.Book.{Book}
 use Rattle.book.specs.Book.{originating, answering}
@@ -12,7 +13,7 @@ use Rattle.protocol.specs.Slot.{started}
 use Rattle.protocol.specs.Call.{standsAt, OffersNothing, OffersFit}
 use Rattle.protocol.specs.Damage.{copyHeard, Arrives}
 use Rattle.protocol.specs.Pair.{MayJoin, JoinedPair, ProfileIn, BothOpen, BothRefuse, sharedVersion}
-use Rattle.protocol.specs.Delivery.{BothCarry, Dipstick}
+use Rattle.protocol.specs.Delivery.{BothCarry, Dipsticks}
 use Rattle.protocol.specs.Undamaged.{hearsO, hearsA}
 use Rattle.protocol.specs.PlainPair.{plainBook, plainDrive}
 use Rattle.protocol.specs.OneCopyWrong.{inverted, damaged, isEight, DamagedPair}
@@ -30,14 +31,36 @@ module _ (d : ℕ) (bo ba : Book) (go ga : ℕ → Drive) (ho ha : ℕ → ℕ) 
         → BothOpen d (sharedVersion bo ba) (entryOf bo 0) (standsAt (started bo) ho go) (standsAt (started ba) ha ga)
     -- and each unit taken is delivered once, in order, unchanged, given the slots to arrive, with nothing between but fill, both ways
     pub carries : SharesVersion → ProfileIn bo ba → BothCarry d bo ba go ga ho ha
-    -- so a value that the answerer delivered is one that the originator was offered in that place, or fill
-    pub dipstick : SharesVersion → ProfileIn bo ba → Dipstick bo ba go ga ho ha
+    -- so a value that either end delivered is one that the other was offered in that place, or fill
+    pub dipsticks : SharesVersion → ProfileIn bo ba → Dipsticks bo ba go ga ho ha
     -- if not, neither opens, and both refuse with the same true reason: 21 where no version is shared
     pub noVersion : sharedVersion bo ba ≡ 0
         → BothRefuse 21 (3 * d + 40) (4 * d + 40) (standsAt (started bo) ho go) (standsAt (started ba) ha ga)
     -- 22 where the profile is in no entry
     pub noProfile : SharesVersion → (ProfileIn bo ba → ⊥)
         → BothRefuse 22 (5 * d + 419) (4 * d + 419) (standsAt (started bo) ho go) (standsAt (started ba) ha ga)
+
+  -- so it is one of three, and the books decide which: both open and carry
+  pub record OpensAndCarries : Type 0 where
+    pub shares : SharesVersion
+    pub has : ProfileIn bo ba
+    pub opens : BothOpen d (sharedVersion bo ba) (entryOf bo 0) (standsAt (started bo) ho go) (standsAt (started ba) ha ga)
+    pub carries : BothCarry d bo ba go ga ho ha
+    pub dipsticks : Dipsticks bo ba go ga ho ha
+
+  -- or neither opens, for they share no version
+  pub record RefusesVersion : Type 0 where
+    pub sharesNone : sharedVersion bo ba ≡ 0
+    pub refuses : BothRefuse 21 (3 * d + 40) (4 * d + 40) (standsAt (started bo) ho go) (standsAt (started ba) ha ga)
+
+  -- or neither opens, for the profile is in no entry
+  pub record RefusesProfile : Type 0 where
+    pub shares : SharesVersion
+    pub lacks : ProfileIn bo ba → ⊥
+    pub refuses : BothRefuse 22 (5 * d + 419) (4 * d + 419) (standsAt (started bo) ho go) (standsAt (started ba) ha ga)
+
+  abbrev pub OneOfThree : Type 0
+  OneOfThree = OpensAndCarries ⊎ (RefusesVersion ⊎ RefusesProfile)
 
 -- Its premises are met.
 

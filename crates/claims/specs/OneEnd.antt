@@ -6,7 +6,7 @@ use Prim.Native.Nat.{ℕ, suc, _≤_}
 use Rattle.book.specs.declared.Entry.{Entry}
 use Rattle.book.specs.declared.Book.{Book}
 use Rattle.channel.specs.Bytes.{byte, sdidle}
-use Rattle.protocol.specs.Sent.{Alone, byteSent}
+use Rattle.protocol.specs.Sent.{Silence, Alone, byteSent}
 use Rattle.protocol.specs.Ranges.{wellFormed}
 use Rattle.protocol.specs.Slot.{started, stepOf, offerAllowed, passes, refuses, slotOf}
 use Rattle.protocol.specs.Call.{endAt, sentAt, deliveredAt, takenAt, standsAt}
@@ -20,6 +20,7 @@ use Rattle.protocol.specs.declared.Drive.{Drive}
 use Rattle.protocol.specs.declared.Signals.{Signals}
 use Rattle.protocol.specs.declared.Outcome.the-variants.{Open, Refused}
 use Rattle.protocol.specs.declared.Reply.the-variants.{Passed}
+use Rattle.protocol.specs.declared.Reply.the-variants as reply
 
 -- any stored state, received byte and drive has a defined reply; what is refused gives back the state as it came
 pub record AnswersAll (e : Endpoint) (heard : ℕ) (g : Drive) : Type 0 where
@@ -28,6 +29,14 @@ pub record AnswersAll (e : Endpoint) (heard : ℕ) (g : Drive) : Type 0 where
   pub otherwise : wellFormed e ≡ true → offerAllowed e g (e .phase) ≡ true → slotOf e heard g ≡ passes (stepOf e heard g)
   -- and a state that is in its ranges stays so
   pub kept : wellFormed e ≡ true → wellFormed (slotOf e heard g .state) ≡ true
+
+-- a slot of a call that 12 refuses
+pub record NotPassed (e : Endpoint) (heard : ℕ → ℕ) (given : ℕ → Drive) (t : ℕ) : Type 0 where
+  pub reply : slotOf (endAt e heard given t) (heard t) (given t) .reply ≡ reply.Refused 12
+  pub sent : sentAt e heard given t ≡ Silence
+  pub delivered : deliveredAt e heard given t ≡ Nothing
+  pub taken : takenAt e heard given t ≡ false
+  pub after : endAt e heard given (suc t) ≡ endAt e heard given t
 
 -- in one slot two calls send, deliver and take the same, and their ends after it are the same
 pub record SameSlot (e : Endpoint) (heard heard′ : ℕ → ℕ) (given given′ : ℕ → Drive) (t : ℕ) : Type 0 where
@@ -53,6 +62,9 @@ pub record CallHolds (b : Book) (heard : ℕ → ℕ) (given : ℕ → Drive) : 
   pub replies : (t : ℕ) → offerAllowed (endAt (started b) heard given t) (given t) (endAt (started b) heard given t .phase) ≡ true
       → slotOf (endAt (started b) heard given t) (heard t) (given t) .reply
       ≡ Passed (byte (byteSent (sentAt (started b) heard given t))) (deliveredAt (started b) heard given t) (takenAt (started b) heard given t) (standsAt (started b) heard given (suc t))
+  -- one that 12 refuses has not passed: nothing is sent, delivered or taken in it, and the end is as it was
+  pub notPassed : (t : ℕ) → offerAllowed (endAt (started b) heard given t) (given t) (endAt (started b) heard given t .phase) ≡ false
+      → NotPassed (started b) heard given t
   -- the slot of opening and of refusing is the count of slots since the start
   pub openedIn : (t version slot : ℕ) (profile : Entry) (signals : Signals) → standsAt (started b) heard given t ≡ Open version profile slot signals
       → LeavesIn (started b) heard given slot

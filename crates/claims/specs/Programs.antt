@@ -8,12 +8,15 @@ use Rattle.text.specs.Text.{text}
 use Rattle.pair.specs.RunsTrue.{RunsTrue}
 use Rattle.pair.specs.Report.{joinSays}
 use Rattle.script.specs.Output.{scriptSays, over}
+use Rattle.script.specs.SaysTrue.{SaysTrue}
 
 pub record ProgramsTrue : Type 0 where
   -- the run of two books is the undamaged pair of the definitions, is ended by the limits, and concludes as demand 3 says
   pub joins : RunsTrue
   -- what tjoin writes is all that it has to say, since a text has room for it
   pub joinWhole : (s : List ℕ) → take (text (joinSays s) .length) (text (joinSays s) .bytes) ≡ joinSays s
-  -- so is what tslot writes, since its buffer has room for what any script says
+  -- what tslot has to say of an accepted script is, line by line, what the call of demand 2 does
+  pub scripts : SaysTrue
+  -- it writes all of that, since its buffer has room for what any script says
   pub scriptWhole : (s out : List ℕ) → 17 * 65536 ≤ length out
       → take (min (length (scriptSays s)) (length out)) (over (scriptSays s) out) ≡ scriptSays s

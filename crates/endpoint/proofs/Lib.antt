@@ -1,4 +1,7 @@
 pub mod AllBelow
 pub mod HighNibble
+pub mod Clock
 pub mod Steps
+pub mod Says
+pub mod SaysAll
 pub mod OneReply

@@ -28,6 +28,7 @@ use protocol::SlotAnswer;
 ghost use mathlib.Core.Path.{_≡_};
 ghost use Rattle.protocol.specs.Ranges.{wellFormed};
 ghost use Rattle.protocol.specs.Slot.{exchangeIn, exchanging, concluded, started, clocked, opens, opensHearing, exchangeStep, openAt, openStep, stepOf, offerFits, offerAllowed, outcomeAt, outcomeOf, refuses, slotOf};
+ghost use Rattle.protocol.specs.Answers.{saysOutcome, standsIn, saysReply, slotSays};
 ghost use Rattle.protocol.specs.declared.Phase.the-variants.{Open};
 ghost use Rattle.endpoint.specs.StepMade.{stepMade, quietStep, passedBy};
 
@@ -277,6 +278,7 @@ fn offer_allowed(e: Endpoint, g: Drive) -> bool
 // Where an end stands.
 pub fn outcome(e: Endpoint) -> Outcome
     ensures { λ r. ⌜ r ≡ outcomeOf e ⌝ }
+    ensures says { λ r. ⌜ saysOutcome r ≡ standsIn e (e .phase) ⌝ }
 {
     let phase = e.phase;
     match phase {
@@ -351,6 +353,7 @@ fn refused(e: Endpoint, number: u8) -> SlotAnswer
 // One slot: 13 first, then 12, then the slot itself.
 pub fn slot(e: Endpoint, heard: ChannelByte, g: Drive) -> SlotAnswer
     ensures { λ r. ⌜ r ≡ slotOf e (heard .0) g ⌝ }
+    ensures says { λ r. ⌜ saysReply (r .reply) ≡ slotSays e (heard .0) g ⌝ }
 {
     if well_formed(e) {
         if offer_allowed(e, g) {

@@ -1,61 +1,59 @@
--- What a byte does to the group in hand, by its kind and by what is due. Assumes nothing.
-use mathlib.Core.Path.{_≡_}
-use mathlib.Core.Bool.{Bool, true, false}
-use Prim.Native.Nat.{ℕ}
-use Rattle.channel.specs.declared.byte.Leads.{Leads}
+-- What a byte does to the group in hand, by the nibble that is due. Assumes nothing.
+use mathlib.Core.Path.{_≡_, refl}
+use mathlib.Core.Bool.{Bool, true, false, cond, _||_}
+use Prim.Native.Nat.{ℕ, _<_}
+use native.Mathlib.Omega.{arith}
+use borrow.Author.Tests.{ne-eqb}
 use Rattle.channel.specs.declared.kind.Kind.{Kind}
 use Rattle.channel.specs.declared.kind.Kind.the-variants.{Sgvi, Sgp, Dl, Dh, Sd, Other}
 use Rattle.protocol.specs.Collecting.{dlDue, dhDue, lastDue, dropped, begun, grown, completed, inGroup}
+use Rattle.protocol.specs.declared.Half.{Half}
+use Rattle.protocol.specs.declared.Half.the-variants.{Empty, Holds}
 use Rattle.protocol.specs.declared.Hearing.{Hearing}
+use Rattle.exchange.specs.DueNibble.{dueNibble, droppedBy}
+use Rattle.exchange.proofs.DueBytes.{dl-early, dh-early}
 
-module _ (h : Hearing) (item count : ℕ) (k : Kind) {r : Hearing} where
-  module _ {x : ℕ} {t : Bool} (e : k ≡ Dl x) (d : t ≡ dlDue count) where
-    pub dl-grows : t ≡ true → r ≡ grown h item count x → r ≡ inGroup h item count k
-    unfolding inGroup
-    dl-grows v q = rw (e, ← d, v, q)
+not-last : (count : ℕ) → count < 5 → lastDue count ≡ false
+not-last count h = ne-eqb count 5 (λ e. omega arith)
 
-    pub dl-begins : t ≡ false → r ≡ begun h item x → r ≡ inGroup h item count k
-    unfolding inGroup
-    dl-begins v q = rw (e, ← d, v, q)
+module _ (h : Hearing) (item count : ℕ) where
+  -- by whether the byte due is the last of the group
+  abbrev onDue : Kind → Bool → Half → Hearing
+  onDue k last (Holds x) = cond last (completed h item x) (grown h item count x)
+  onDue k last Empty = droppedBy h item k
 
-  module _ {x : ℕ} {t : Bool} (e : k ≡ Dh x) (d : t ≡ dhDue count) where
-    pub dh-grows : t ≡ true → r ≡ grown h item count x → r ≡ inGroup h item count k
-    unfolding inGroup
-    dh-grows v q = rw (e, ← d, v, q)
+  on-dl : (x : ℕ) (t last : Bool) → (t ≡ true → last ≡ false)
+      → cond t (grown h item count x) (begun h item x) ≡ onDue (Dl x) last (cond t (Holds x) Empty)
+  unfolding droppedBy
+  on-dl x true last f = rw (f refl)
+  on-dl x false last f = refl
 
-    module _ {l : Bool} (v : t ≡ false) (f : l ≡ lastDue count) where
-      pub dh-completes : l ≡ true → r ≡ completed h item x → r ≡ inGroup h item count k
-      unfolding inGroup
-      dh-completes w q = rw (e, ← d, v, ← f, w, q)
+  on-dh : (x : ℕ) (t last : Bool) → (t ≡ true → last ≡ false)
+      → cond t (grown h item count x) (cond last (completed h item x) (dropped h item))
+      ≡ onDue (Dh x) last (cond (t || last) (Holds x) Empty)
+  unfolding droppedBy
+  on-dh x true last f = rw (f refl)
+  on-dh x false true f = refl
+  on-dh x false false f = refl
 
-      pub dh-drops : l ≡ false → r ≡ dropped h item → r ≡ inGroup h item count k
-      unfolding inGroup
-      dh-drops w q = rw (e, ← d, v, ← f, w, q)
+  by-due : (k : Kind) → inGroup h item count k ≡ onDue k (lastDue count) (dueNibble count k)
+  unfolding inGroup dueNibble droppedBy
+  by-due (Dl x) = on-dl x (dlDue count) (lastDue count) (λ d. not-last count (dl-early count d))
+  by-due (Dh x) = on-dh x (dhDue count) (lastDue count) (λ d. not-last count (dh-early count d))
+  by-due Sgvi = refl
+  by-due (Sgp k) = refl
+  by-due (Sd s bk) = refl
+  by-due Other = refl
 
-  pub sgvi-drops : k ≡ Sgvi → r ≡ dropped h item → r ≡ inGroup h item count k
-  unfolding inGroup
-  sgvi-drops e q = rw (e, q)
+  module _ (k : Kind) {v : Half} {r : Hearing} (e : v ≡ dueNibble count k) where
+    module _ {x : ℕ} {last : Bool} (q : v ≡ Holds x) (l : last ≡ lastDue count) where
+      pub completes : last ≡ true → r ≡ completed h item x → r ≡ inGroup h item count k
+      completes w p = rw (by-due k, ← e, q, ← l, w, p)
 
-  pub sgp-drops : {i : ℕ} → k ≡ Sgp i → r ≡ dropped h item → r ≡ inGroup h item count k
-  unfolding inGroup
-  sgp-drops e q = rw (e, q)
+      pub grows : last ≡ false → r ≡ grown h item count x → r ≡ inGroup h item count k
+      grows w p = rw (by-due k, ← e, q, ← l, w, p)
 
-  pub sd-drops : {s : Leads} {bk : Bool} → k ≡ Sd s bk → r ≡ dropped h item → r ≡ inGroup h item count k
-  unfolding inGroup
-  sd-drops e q = rw (e, q)
+    pub drops : v ≡ Empty → r ≡ droppedBy h item k → r ≡ inGroup h item count k
+    drops q p = rw (by-due k, ← e, q, p)
 
-  pub other-drops : k ≡ Other → r ≡ dropped h item → r ≡ inGroup h item count k
-  unfolding inGroup
-  other-drops e q = rw (e, q)
-
-pub ruleset grouped = (
-  dl-grows,
-  dl-begins,
-  dh-grows,
-  dh-completes,
-  dh-drops,
-  sgvi-drops,
-  sgp-drops,
-  sd-drops,
-  other-drops,
-)
+pub ruleset grouped = (completes, grows, drops)

@@ -1,6 +1,7 @@
 pub mod PastEnd
 pub mod DueBytes
 pub mod InGroup
+pub mod OtherKinds
 pub mod EightBits
 pub mod OtherParams
 pub mod Matching

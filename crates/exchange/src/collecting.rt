@@ -5,6 +5,7 @@ use book::Book;
 use channel::kind::Kind;
 use channel::vote::vote;
 use protocol::Awaited;
+use protocol::Half;
 use protocol::Hearing;
 ghost use mathlib.Core.Path.{_≡_};
 ghost use mathlib.Core.Bool.{cond};
@@ -12,6 +13,7 @@ ghost use Prim.Native.Nat.{_+_, _*_, _%_, _<_};
 ghost use lib.Dec.{ltb};
 ghost use Rattle.protocol.specs.Lengths.{runLength};
 ghost use Rattle.protocol.specs.Collecting.{ofRun, dlDue, dhDue, lastDue, valueOf, awaiting, dropped, begun, grown, nextAfter, completed, inRun, inGroup, hear, itemOf, awaitsHail, hasIdentifier, hasAll};
+ghost use Rattle.exchange.specs.DueNibble.{dueNibble, droppedBy};
 
 // No group is in hand.
 pub(crate) const NO_NIBBLES: [u8; 6] = [0; 6];
@@ -48,6 +50,12 @@ fn last_due(count: u8) -> bool
     ensures { λ r. ⌜ r ≡ lastDue count ⌝ }
 {
     count == 5
+}
+
+fn held(due: bool, x: u8) -> Half
+    ensures { λ r. ⌜ r ≡ cond due (Half.Holds x) Half.Empty ⌝ }
+{
+    if due { Half::Holds(x) } else { Half::Empty }
 }
 
 // One of the three copies, as a byte.
@@ -166,31 +174,40 @@ fn in_run(b: Book, h: Hearing, item: u8, count: u8, k: Kind) -> Hearing
     awaiting(h, run_after(b, item, count, k), NO_NIBBLES)
 }
 
+// The nibble of the next one due, a DL or a DH; none in a byte of any other kind.
+fn due_nibble(count: u8, k: Kind) -> Half
+    ensures { λ r. ⌜ r ≡ dueNibble count k ⌝ }
+{
+    match k {
+        Kind::Dl(x) => held(dl_due(count), x),
+        Kind::Dh(x) => held(dh_due(count) | last_due(count), x),
+        _ => Half::Empty,
+    }
+}
+
+// A byte that drops a group leaves nothing in hand, but a DL begins another.
+fn dropped_by(h: Hearing, item: u8, k: Kind) -> Hearing
+    ensures { λ r. ⌜ r ≡ droppedBy h item k ⌝ }
+{
+    if let Kind::Dl(x) = k {
+        begun(h, item, x)
+    } else {
+        dropped(h, item)
+    }
+}
+
 // A byte of any other kind than the next one due drops the group.
 fn in_group(h: Hearing, item: u8, count: u8, k: Kind) -> Hearing
     ensures { λ r. ⌜ r ≡ inGroup h item count k ⌝ }
 {
-    match k {
-        Kind::Dl(x) => {
-            if dl_due(count) {
-                grown(h, item, count, x)
-            } else {
-                begun(h, item, x)
-            }
+    if let Half::Holds(x) = due_nibble(count, k) {
+        if last_due(count) {
+            completed(h, item, x)
+        } else {
+            grown(h, item, count, x)
         }
-        Kind::Dh(x) => {
-            if dh_due(count) {
-                grown(h, item, count, x)
-            } else if last_due(count) {
-                completed(h, item, x)
-            } else {
-                dropped(h, item)
-            }
-        }
-        Kind::Sgvi => dropped(h, item),
-        Kind::Sgp(_) => dropped(h, item),
-        Kind::Sd(_, _) => dropped(h, item),
-        Kind::Other => dropped(h, item),
+    } else {
+        dropped_by(h, item, k)
     }
 }
 

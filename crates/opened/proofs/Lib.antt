@@ -1,3 +1,6 @@
 pub mod PairForms
 pub mod DhOfNibble
+pub mod Agreeing
+pub mod Streams
+pub mod Delivers
 pub mod OneReply

@@ -29,7 +29,7 @@ pub fresh-line-one : (a : _) (r s : _) (x y : _) → fresh-line.Post tt a r x �
 fresh-line-one a r s x y p q = one-reply _ p q
 
 pub reading-one : (a : _) (r s : _) (x y : _) → reading.Post tt a r x → reading.Post tt a s y → r ≡ s
-reading-one a r s x y p q = one-reply _ p q
+reading-one a r s x y p q = one-reply _ (p .0) (q .0)
 
 pub writing-one : (a : _) (r s : _) (x y : _) → writing.Post tt a r x → writing.Post tt a s y → r ≡ s
 writing-one a r s x y p q = one-reply _ p q

@@ -14,6 +14,7 @@ ghost use mathlib.Core.Path.{_≡_};
 ghost use mathlib.Core.Bool.{cond, _&&_};
 ghost use lib.Dec.{eqb};
 ghost use Rattle.protocol.specs.Opened.{agreed, agreedSignals, reads, readsSd, quiet, wordWith, readsWord, readsIdle, readsSix, readsPair, readsStream, readsForm, reading};
+ghost use Rattle.protocol.specs.Answers.{saysDelivered, deliversOf};
 ghost use Rattle.opened.specs.OpenMade.{readingMade};
 
 // What a received byte makes of the receiving half, and what it delivers.
@@ -202,11 +203,11 @@ fn reads_pair(i: Inbound, k: Kind) -> ReadingMade
 fn reads_stream(f: Form, i: Inbound, heard: ChannelByte) -> ReadingMade
     ensures { λ r. ⌜ r ≡ readingMade (readsStream f i (heard .0)) ⌝ }
 {
-    let paired = i.pair == 2;
-    if paired {
-        return delivers(i, 2, unit::unit_in(f, heard));
+    let seeking = i.pair != 2;
+    if seeking {
+        return reads_pair(i, heard.kind());
     }
-    reads_pair(i, heard.kind())
+    delivers(i, 2, unit::unit_in(f, heard))
 }
 
 fn reads_form(f: Form, i: Inbound, heard: ChannelByte) -> ReadingMade
@@ -220,6 +221,7 @@ fn reads_form(f: Form, i: Inbound, heard: ChannelByte) -> ReadingMade
 
 pub fn reading(s: Shape, i: Inbound, heard: ChannelByte) -> ReadingMade
     ensures { λ r. ⌜ r ≡ readingMade (reading s i (heard .0)) ⌝ }
+    ensures says { λ r. ⌜ saysDelivered (r .delivered) ≡ deliversOf s i (heard .0) ⌝ }
 {
     match s {
         Shape::Word(w) => reads_word(w, i, heard.kind()),

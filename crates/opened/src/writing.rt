@@ -17,7 +17,7 @@ ghost use Prim.Native.Nat.{_-_, _*_};
 ghost use lib.Dec.{eqb};
 ghost use Rattle.channel.specs.Bytes.{byte, dhByte};
 ghost use Rattle.channel.specs.Forms.{unitsOf};
-ghost use Rattle.protocol.specs.Opened.{openingSd, bkSent, writesSd, writesOffer, writesDue, writesUnit, writesData, writing};
+ghost use Rattle.protocol.specs.Opened.{openingSd, bkSent, writesSd, held, writesOffer, writesDue, writesUnit, writesData, writing};
 ghost use Rattle.opened.specs.OpenMade.{writingMade, sendingByte};
 
 // What becomes of the sending half, the byte sent, and whether the offered unit is taken.
@@ -103,12 +103,19 @@ fn dh_due(high: u8) -> ChannelByte
     ChannelByte::dh(high % 16 * 16)
 }
 
-// Form 0: while the flag is on, Sd goes; no unit is taken unless the last two Sd sent had BK 0.
+// While the flag is on, Sd goes; no unit is taken unless the last two Sd sent had BK 0.
+fn held(flag: bool, bk1: bool, bk2: bool) -> bool
+    ensures { λ r. ⌜ r ≡ held flag bk1 bk2 ⌝ }
+{
+    flag | (bk1 | bk2)
+}
+
+// Form 0, no DH being due.
 fn writes_free(w: u8, o: Outbound, g: Drive) -> WritingMade
     ensures { λ r. ⌜ r ≡ writingMade (writesDue w o g Half.Empty) ⌝ }
 {
     let offer = g.offer;
-    if g.flag | (o.bk1 | o.bk2) {
+    if held(g.flag, o.bk1, o.bk2) {
         return writes_sd(Shape::Word(w), o, o.opening, g);
     }
     writes_offer(w, o, g, offer)

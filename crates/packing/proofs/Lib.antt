@@ -9,4 +9,4 @@ pub mod Answers
 pub mod Positions
 pub mod Trips
 pub mod OneReply
-pub mod Samples
+pub mod Figures

@@ -16,7 +16,7 @@ use Rattle.channel.specs.Versions.{highest}
 use Rattle.protocol.specs.Lengths.{parameterRun, parameterLead}
 use Rattle.protocol.specs.Exchange.{entryOf, hasParams, matchIn, answered, opensOn}
 use Rattle.protocol.specs.Sent.{Alone}
-use Rattle.protocol.specs.Slot.{started, opens, opensHearing, openAt, stepOf, outcomeAt, outcomeOf}
+use Rattle.protocol.specs.Slot.{started, opens, opensHearing, openAt, slotStep, outcomeAt, outcomeOf}
 use Rattle.protocol.specs.Opened.{freshLine}
 use Rattle.protocol.specs.Ranges.{wellFormed}
 use Rattle.protocol.specs.Call.{sentAt, standsAt}
@@ -254,7 +254,7 @@ module _ {d mo lo co : ℕ} {eo : List Entry} {ma la ca : ℕ} {ea : List Entry}
       pub state-a : end (bookA ma la ca ea) ha ga (suc (4 * d + 419)) ≡ opens (bookA ma la ca ea) (4 * d + 419) last-exchange-a i freshLine
       state-a = timed-over (bookA ma la ca ea) ha ga kept-a (4 * d + 419) within-a talks-a (OpensSending i) last-exchange-a (last-a ∙ rw e)
 
-      pub step-o : stepOf (end (bookO mo lo co eo) ho go (5 * d + 419)) (ho (5 * d + 419)) (go (5 * d + 419))
+      pub step-o : slotStep (end (bookO mo lo co eo) ho go (5 * d + 419)) (ho (5 * d + 419)) (go (5 * d + 419))
           ≡ opensHearing (bookO mo lo co eo) (5 * d + 419) last-exchange-o 0 (go (5 * d + 419))
       step-o =
           timed-hearing (bookO mo lo co eo) ho go kept-o (5 * d + 419) within-o

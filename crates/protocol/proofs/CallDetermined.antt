@@ -3,7 +3,7 @@
 use mathlib.Core.Path.{_≡_, refl, ap}
 use Prim.Native.Nat.{ℕ, zero, suc, _<_, _≤_}
 use native.Mathlib.Omega.{arith}
-use Rattle.protocol.specs.Slot.{Step, stepOf, slotOf}
+use Rattle.protocol.specs.Slot.{Step, slotStep, slotOf}
 use Rattle.protocol.specs.Call.{endAt, sentAt, deliveredAt, takenAt}
 use Rattle.protocol.specs.declared.Endpoint.{Endpoint}
 use Rattle.protocol.specs.declared.Drive.{Drive}
@@ -14,7 +14,7 @@ same-slot : {e e′ : Endpoint} {heard heard′ : ℕ} {g g′ : Drive} → e �
 same-slot p q r = rw (p, q, r)
 
 same-step : {e e′ : Endpoint} {heard heard′ : ℕ} {g g′ : Drive} → e ≡ e′ → heard ≡ heard′ → g ≡ g′
-    → stepOf e heard g ≡ stepOf e′ heard′ g′
+    → slotStep e heard g ≡ slotStep e′ heard′ g′
 same-step p q r = rw (p, q, r)
 
 module _ (e : Endpoint) (heard heard′ : ℕ → ℕ) (given given′ : ℕ → Drive) where
@@ -26,7 +26,7 @@ module _ (e : Endpoint) (heard heard′ : ℕ → ℕ) (given given′ : ℕ →
       same-slot (call-determined t (λ i l. h i (omega arith)) (λ i l. g i (omega arith))) (h t (omega arith)) (g t (omega arith))
 
   module _ (t : ℕ) (h : (i : ℕ) → i ≤ t → heard i ≡ heard′ i) (g : (i : ℕ) → i ≤ t → given i ≡ given′ i) where
-    step-determined : stepOf (endAt e heard given t) (heard t) (given t) ≡ stepOf (endAt e heard′ given′ t) (heard′ t) (given′ t)
+    step-determined : slotStep (endAt e heard given t) (heard t) (given t) ≡ slotStep (endAt e heard′ given′ t) (heard′ t) (given′ t)
     step-determined =
         same-step (call-determined t (λ i l. h i (omega arith)) (λ i l. g i (omega arith))) (h t (omega arith)) (g t (omega arith))
 

@@ -1,7 +1,7 @@
 -- What has concluded stays as it concluded: an open end but for its line, a refused end wholly, and that sends Sdidle for ever.
 -- Assumes nothing.
 use mathlib.Core.Path.{_≡_, refl, ap, _∙_}
-use mathlib.Core.Bool.{false}
+use mathlib.Core.Bool.{true, false}
 use Prim.Native.Nat.{ℕ, zero, suc, _+_, _-_, _≤_}
 use native.Mathlib.Nat.{add-zero, add-suc}
 use native.Mathlib.Omega.{arith}
@@ -11,7 +11,7 @@ use Rattle.protocol.specs.Exchange.{entryOf}
 use Rattle.protocol.specs.Sent.{Alone}
 use Rattle.protocol.specs.Opened.{shapeOf, reading, writing}
 use Rattle.protocol.specs.Ranges.{wellFormed}
-use Rattle.protocol.specs.Slot.{openAt, openStep, Step, step, stepAt, stepOf, offerAllowed, slotOf}
+use Rattle.protocol.specs.Slot.{openAt, openStep, Step, step, stepAt, stepOf, offerAllowed, slotStep, slotOf}
 use Rattle.protocol.specs.Call.{endAt, sentAt, deliveredAt, takenAt}
 use Rattle.protocol.specs.Concluding.{StaysOpen}
 use Rattle.protocol.specs.declared.Line.{Line}
@@ -21,6 +21,7 @@ use Rattle.protocol.specs.declared.Endpoint.{Endpoint}
 use Rattle.protocol.specs.declared.Drive.{Drive}
 use Rattle.protocol.specs.declared.Delivered.the-variants as delivered
 use Rattle.protocol.specs.declared.SlotAnswer.{SlotAnswer}
+use Rattle.protocol.proofs.SlotPasses.{step-passes}
 
 is-open : (e : Endpoint) {slot version i : ℕ} {line : Line} → e .phase ≡ Open slot version i line → StaysOpen e slot version i e
 is-open e {line} q =
@@ -102,20 +103,23 @@ pub refused-stays : (e : Endpoint) (heard : ℕ → ℕ) (given : ℕ → Drive)
 refused-stays e heard given t u {number} {slot} later q = rw (reached t u later) at (refused-more e heard given (u - t) t number slot q)
 
 -- it sends Sdidle, and neither delivers nor takes
-refused-steps : (e : Endpoint) (heard : ℕ → ℕ) (given : ℕ → Drive) (t u : ℕ) {number slot : ℕ} → t ≤ u
+refused-steps : (e : Endpoint) (heard : ℕ → ℕ) (given : ℕ → Drive) (t u : ℕ) {number slot : ℕ} → wellFormed (endAt e heard given u) ≡ true → t ≤ u
     → endAt e heard given t .phase ≡ Refused number slot
-    → stepOf (endAt e heard given u) (heard u) (given u) ≡ step (endAt e heard given u) (Alone sdidle)
-refused-steps e heard given t u later q =
-    refused-step (endAt e heard given u) (heard u) (given u) (ap (λ (x : Endpoint). x .phase) (refused-stays e heard given t u later q) ∙ q)
+    → slotStep (endAt e heard given u) (heard u) (given u) ≡ step (endAt e heard given u) (Alone sdidle)
+unfolding offerAllowed
+refused-steps e heard given t u w later q =
+    let p = ap (λ (x : Endpoint). x .phase) (refused-stays e heard given t u later q) ∙ q in
+    step-passes (endAt e heard given u) (heard u) (given u) w (rw p refl)
+    ∙ refused-step (endAt e heard given u) (heard u) (given u) p
 
-pub refused-idles : (e : Endpoint) (heard : ℕ → ℕ) (given : ℕ → Drive) (t u : ℕ) {number slot : ℕ} → t ≤ u
+pub refused-idles : (e : Endpoint) (heard : ℕ → ℕ) (given : ℕ → Drive) (t u : ℕ) {number slot : ℕ} → wellFormed (endAt e heard given u) ≡ true → t ≤ u
     → endAt e heard given t .phase ≡ Refused number slot → sentAt e heard given u ≡ Alone sdidle
-refused-idles e heard given t u later q = ap (λ (s : Step). s .sent) (refused-steps e heard given t u later q)
+refused-idles e heard given t u w later q = ap (λ (s : Step). s .sent) (refused-steps e heard given t u w later q)
 
-pub refused-ignores : (e : Endpoint) (heard : ℕ → ℕ) (given : ℕ → Drive) (t u : ℕ) {number slot : ℕ} → t ≤ u
+pub refused-ignores : (e : Endpoint) (heard : ℕ → ℕ) (given : ℕ → Drive) (t u : ℕ) {number slot : ℕ} → wellFormed (endAt e heard given u) ≡ true → t ≤ u
     → endAt e heard given t .phase ≡ Refused number slot
     → (deliveredAt e heard given u ≡ delivered.Nothing) × (takenAt e heard given u ≡ false)
-refused-ignores e heard given t u later q = (
-  ap (λ (s : Step). s .delivered) (refused-steps e heard given t u later q),
-  ap (λ (s : Step). s .taken) (refused-steps e heard given t u later q),
+refused-ignores e heard given t u w later q = (
+  ap (λ (s : Step). s .delivered) (refused-steps e heard given t u w later q),
+  ap (λ (s : Step). s .taken) (refused-steps e heard given t u w later q),
 )

@@ -4,7 +4,7 @@ use mathlib.Core.Path.{_≡_, refl, sym, ap}
 use mathlib.Core.List.{[], _∷_, _++_}
 use Prim.Native.Nat.{ℕ, zero, suc, _+_, _≤_}
 use lib.ListN.{drop}
-use Rattle.protocol.specs.Slot.{stepOf, slotOf}
+use Rattle.protocol.specs.Slot.{slotStep, slotOf}
 use Rattle.protocol.specs.Call.{sentAt}
 use Rattle.protocol.specs.Damage.{Arrives}
 use Rattle.protocol.specs.Joined.{Joined, arriving, joined}
@@ -22,8 +22,8 @@ damagedSlot go ga j =
     record {
       o = slotOf (j .o) (arriving (j .toO)) go .state;
       a = slotOf (j .a) (arriving (j .toA)) ga .state;
-      toO = drop 1 (j .toO) ++ (damaged (stepOf (j .a) (arriving (j .toA)) ga .sent) ∷ []);
-      toA = drop 1 (j .toA) ++ (damaged (stepOf (j .o) (arriving (j .toO)) go .sent) ∷ []);
+      toO = drop 1 (j .toO) ++ (damaged (slotStep (j .a) (arriving (j .toA)) ga .sent) ∷ []);
+      toA = drop 1 (j .toA) ++ (damaged (slotStep (j .o) (arriving (j .toO)) go .sent) ∷ []);
     }
 
 module _ (o a : Endpoint) (d : ℕ) (go ga : ℕ → Drive) where
@@ -41,13 +41,13 @@ module _ (o a : Endpoint) (d : ℕ) (go ga : ℕ → Drive) where
   next-o : (t : ℕ) → damagedAt (suc t) .toO ≡ drop 1 (damagedAt t .toO) ++ (damaged (sentAt a heardA ga t) ∷ [])
   unfolding damagedAt damagedSlot joined heardA
   next-o t =
-      ap (λ e. drop 1 (damagedAt t .toO) ++ (damaged (stepOf e (heardA t) (ga t) .sent) ∷ []))
+      ap (λ e. drop 1 (damagedAt t .toO) ++ (damaged (slotStep e (heardA t) (ga t) .sent) ∷ []))
       (sym (end-is a heardA ga (λ t. damagedAt t .a) refl (λ t. refl) t))
 
   next-a : (t : ℕ) → damagedAt (suc t) .toA ≡ drop 1 (damagedAt t .toA) ++ (damaged (sentAt o heardO go t) ∷ [])
   unfolding damagedAt damagedSlot joined heardO
   next-a t =
-      ap (λ e. drop 1 (damagedAt t .toA) ++ (damaged (stepOf e (heardO t) (go t) .sent) ∷ []))
+      ap (λ e. drop 1 (damagedAt t .toA) ++ (damaged (slotStep e (heardO t) (go t) .sent) ∷ []))
       (sym (end-is o heardO go (λ t. damagedAt t .o) refl (λ t. refl) t))
 
   module _ (delay : 1 ≤ d) where

@@ -39,26 +39,6 @@ reports n j = outcomeOf (after n j .o) ∷ outcomeOf (after n j .a) ∷ []
 abbrev opened : ℕ → Outcome
 opened slot = Open 2 profile slot idleSignals
 
--- both masks 3, limit 500, delay 1: O open 424, A open 423
-pub opens-424-423 : reports 425 (pair 3 3 500 1) ≡ opened 424 ∷ opened 423 ∷ []
-unfolding computing
-opens-424-423 = refl
-
--- with masks 1 and 2: O refused 21 43, A refused 21 44
-pub refused-43-44 : reports 45 (pair 1 2 500 1) ≡ Refused 21 43 ∷ Refused 21 44 ∷ []
-unfolding computing
-refused-43-44 = refl
-
--- delay 2, limits 430: O opens in slot 429, A in 427
-pub opens-429-427 : reports 430 (pair 3 3 430 2) ≡ opened 429 ∷ opened 427 ∷ []
-unfolding computing
-opens-429-427 = refl
-
--- limits 429: A opens in 427, O refuses 23 in slot 428
-pub refused-428 : reports 429 (pair 3 3 429 2) ≡ Refused 23 428 ∷ opened 427 ∷ []
-unfolding computing
-refused-428 = refl
-
 -- an answerer after it has heard these bytes, one a slot
 abbrev hears : List ℕ → Endpoint → Endpoint
 hears [] e = e
@@ -67,12 +47,28 @@ hears (b ∷ bs) e = hears bs (slotOf e b idle .state)
 abbrev awaitsAfter : List ℕ → Awaited
 awaitsAfter bytes = awaitedBy (hears bytes (started (bookFor answering 3 500)) .phase)
 
--- 15 Sgvi, one 43, one Sgvi make no run: one byte of it has come
-pub no-run : awaitsAfter (replicate 15 sgvi ++ (0x43 ∷ sgvi ∷ [])) ≡ Run 0 1
-unfolding computing
-no-run = refl
+pub record PairFigures : Type 0 where
+  -- both masks 3, limit 500, delay 1: O open 424, A open 423
+  pub opens-424-423 : reports 425 (pair 3 3 500 1) ≡ opened 424 ∷ opened 423 ∷ []
+  -- with masks 1 and 2: O refused 21 43, A refused 21 44
+  pub refused-43-44 : reports 45 (pair 1 2 500 1) ≡ Refused 21 43 ∷ Refused 21 44 ∷ []
+  -- delay 2, limits 430: O opens in slot 429, A in 427
+  pub opens-429-427 : reports 430 (pair 3 3 430 2) ≡ opened 429 ∷ opened 427 ∷ []
+  -- limits 429: A opens in 427, O refuses 23 in slot 428
+  pub refused-428 : reports 429 (pair 3 3 429 2) ≡ Refused 23 428 ∷ opened 427 ∷ []
+  -- 15 Sgvi, one 43, one Sgvi make no run: one byte of it has come
+  pub no-run : awaitsAfter (replicate 15 sgvi ++ (0x43 ∷ sgvi ∷ [])) ≡ Run 0 1
+  -- 16 in a row do: the group is awaited
+  pub run-of-16 : awaitsAfter (replicate 16 sgvi) ≡ Group 0 0
 
--- 16 in a row do: the group is awaited
-pub run-of-16 : awaitsAfter (replicate 16 sgvi) ≡ Group 0 0
+pub pair-figures : PairFigures
 unfolding computing
-run-of-16 = refl
+pair-figures =
+    record {
+      opens-424-423 = refl;
+      refused-43-44 = refl;
+      opens-429-427 = refl;
+      refused-428 = refl;
+      no-run = refl;
+      run-of-16 = refl;
+    }

@@ -1,7 +1,7 @@
 -- The sentences of "One slot" on the exchange as figures: Answering, Originating, Versions, Collecting and Clock, in that order and in those
 -- words. Each row is computed. Assumes nothing.
 use mathlib.Core.Path.{_≡_, refl}
-use mathlib.Core.Bool.{false, cond}
+use mathlib.Core.Bool.{true, false, cond}
 use mathlib.Core.List.{List, [], _∷_, _++_, map}
 use Prim.Native.Nat.{ℕ, _+_, _*_, _/_, _%_}
 use lib.Dec.{eqb}
@@ -21,7 +21,7 @@ use Rattle.protocol.specs.declared.Offer.the-variants as offer
 use Rattle.protocol.specs.declared.Drive.{Drive}
 use Rattle.protocol.specs.declared.Outcome.{Outcome}
 use Rattle.protocol.specs.declared.Outcome.the-variants as outcome
-use Rattle.protocol.proofs.FigureRows.{profile, bookOf, leads, signals, nothing, Slot, Row, defined, written, row, passes, slot, hears, hearsAll, group, exchanging, six}
+use Rattle.protocol.proofs.FigureRows.{profile, bookOf, leads, signals, nothing, offers, Slot, Row, defined, written, row, passes, slot, hears, hearsAll, group, exchanging, six, openSlot}
 
 -- The start: nothing has come and nothing has gone, slots count from 0.
 
@@ -35,7 +35,7 @@ pub record Starts : Type 0 where
   pub answers : started (answerer 3 (profile 7 0 ∷ [])) ≡ exchanging (answerer 3 (profile 7 0 ∷ [])) 0 0 (Run 0 0) (six []) (six []) (Hail 0)
   pub originates : started (originator 3) ≡ exchanging (originator 3) 0 0 (Run 0 0) (six []) (six []) Idle
 
-pub starts-hold : Starts
+starts-hold : Starts
 unfolding computing
 starts-hold = record { answers = refl; originates = refl }
 
@@ -44,36 +44,21 @@ starts-hold = record { answers = refl; originates = refl }
 abbrev sixteen : List ℕ
 sixteen = replicate 16 0x57
 
--- the five parameters of the profile, each after so many Sgpk
+-- five parameters as they go: each its group after so many Sgpk
+abbrev fiveAfter : ℕ → List ℕ → List ℕ → List ℕ → List ℕ → List ℕ → List ℕ
+fiveAfter n p0 p1 p2 p3 p4 =
+    replicate n 0x07 ++ p0 ++ replicate n 0x17 ++ p1 ++ replicate n 0x27 ++ p2 ++ replicate n 0x37 ++ p3 ++ replicate n 0x47 ++ p4
+
+-- those of the profile
 abbrev parameters : ℕ → List ℕ
-parameters n =
-    replicate n 0x07
-    ++ group 0x15 0xAD
-    ++ replicate n 0x17
-    ++ group 0x25 0xBD
-    ++ replicate n 0x27
-    ++ group 0x35 0xCD
-    ++ replicate n 0x37
-    ++ group 0x45 0xDD
-    ++ replicate n 0x47
-    ++ group 0x55 0xED
+parameters n = fiveAfter n (group 0x15 0xAD) (group 0x25 0xBD) (group 0x35 0xCD) (group 0x45 0xDD) (group 0x55 0xED)
 
 -- another profile, 0F 1E 2D 3C 4B, and its parameters
 abbrev other : Entry
 other = record { p0 = 0x0F; p1 = 0x1E; p2 = 0x2D; p3 = 0x3C; p4 = 0x4B; form = 6; w = 0 }
 
 abbrev otherParameters : ℕ → List ℕ
-otherParameters n =
-    replicate n 0x07
-    ++ group 0xF5 0x0D
-    ++ replicate n 0x17
-    ++ group 0xE5 0x1D
-    ++ replicate n 0x27
-    ++ group 0xD5 0x2D
-    ++ replicate n 0x37
-    ++ group 0xC5 0x3D
-    ++ replicate n 0x47
-    ++ group 0xB5 0x4D
+otherParameters n = fiveAfter n (group 0xF5 0x0D) (group 0xE5 0x1D) (group 0xD5 0x2D) (group 0xC5 0x3D) (group 0xB5 0x4D)
 
 -- leads 1011, whose Sd is B3
 abbrev leading : Drive
@@ -82,7 +67,7 @@ leading = record { leads = leads 1 0 1 1; flag = false; offer = offer.Nothing }
 abbrev opens : ℕ → Entry → ℕ → Outcome
 opens version entry since = outcome.Open version entry since (signals 0 1 0 0 0)
 
--- the profile with p0 to p4 in place of its parameters
+-- the values voted: the identifier 3 and these parameters
 abbrev values : ℕ → ℕ → ℕ → ℕ → ℕ → List ℕ
 values p0 p1 p2 p3 p4 = 3 ∷ p0 ∷ p1 ∷ p2 ∷ p3 ∷ p4 ∷ []
 
@@ -133,12 +118,22 @@ answering =
     ∷ concludes (profile 7 0 ∷ []) (values 0xA1 0xB2 0xC2 0xD4 0xE5) 0xED (outcome.Refused 22 300)
     ∷ concludes (profile 7 0 ∷ []) (values 0xA1 0xB2 0xC3 0xD6 0xE5) 0xED (outcome.Refused 22 300)
     ∷ concludes (profile 7 0 ∷ []) (values 0xA1 0xB2 0xC3 0xD4 0xF5) 0xED (outcome.Refused 22 300)
+    -- bytes received after the opening slot are read by the open rules, and not before
+    ∷ row (hasHeard (answerer 3 (profile 6 0 ∷ [])) theirs (Parameters 189))
+    (passes 0x85 nothing 0xED (opens 2 (profile 6 0) 300)
+    ∷ openSlot 2 (profile 6 0) 0x85 nothing 0x43 (0x21 ∷ []) false (signals 0 1 0 0 0)
+    ∷ [])
+    -- the first 16 bytes sent are Sd, from the next slot on
+    ∷ row (hasHeard (answerer 3 (profile 6 0 ∷ [])) theirs (Parameters 189))
+    (passes 0x43 (offers 1) 0xED (opens 2 (profile 6 0) 300)
+    ∷ replicate 16 (openSlot 2 (profile 6 0) 0x43 (offers 1) 0x43 [] false (signals 0 1 0 0 0))
+    ++ (openSlot 2 (profile 6 0) 0x43 (offers 1) 0x05 [] true (signals 0 1 0 0 0) ∷ []))
     -- 0 is a value like any other
     ∷ concludes (profile 7 0 ∷ []) (values 0 0 0 0 0) 0xED (outcome.Refused 22 300)
     ∷ concludes (profile 7 0 ∷ zeros ∷ []) (values 0 0 0 0 0) 0x0D (opens 2 zeros 300)
     ∷ []
 
-pub answering-holds : defined answering ≡ written answering
+answering-holds : defined answering ≡ written answering
 unfolding computing
 answering-holds = refl
 
@@ -179,6 +174,14 @@ originating =
     ∷ completes (values 0xA1 0xB3 0xC3 0xD4 0) Done 0x43 (outcome.Refused 22 300)
     ∷ completes (values 0xA1 0xB2 0xC2 0xD4 0) Done 0x43 (outcome.Refused 22 300)
     ∷ completes (values 0xA1 0xB2 0xC3 0xD5 0) Done 0x43 (outcome.Refused 22 300)
+    -- the first 16 bytes sent are Sd, in the slot of opening already
+    ∷ row (lacksOne (originator 3) theirs Done)
+    (passes 0xED (offers 1) 0x43 (opens 2 (profile 7 0) 300)
+    ∷ replicate 15 (openSlot 2 (profile 7 0) 0x43 (offers 1) 0x43 [] false (signals 0 1 0 0 0))
+    ++ (openSlot 2 (profile 7 0) 0x43 (offers 1) 0x05 [] false (signals 0 1 0 0 0)
+    ∷ openSlot 2 (profile 7 0) 0x43 (offers 1) 0x0D [] false (signals 0 1 0 0 0)
+    ∷ openSlot 2 (profile 7 0) 0x43 (offers 1) 0x81 [] true (signals 0 1 0 0 0)
+    ∷ []))
     -- the other's all received, its own not yet all sent
     ∷ completes theirs (Hail 5) 0x57 outcome.Exchanging
     ∷ completes theirs (Mask 3) 0x0D outcome.Exchanging
@@ -191,7 +194,7 @@ originating =
     ∷ row (exchanging (originator 3) 300 2 (Run 5 0) (six []) (six (take 5 theirs)) (Parameters 189)) (hears (0x43 ∷ 0x43 ∷ []) (0xED ∷ 0x43 ∷ []))
     ∷ []
 
-pub originating-holds : defined originating ≡ written originating
+originating-holds : defined originating ≡ written originating
 unfolding computing
 originating-holds = refl
 
@@ -235,7 +238,7 @@ pub record VersionsSettled : Type 0 where
   pub refused : map (λ (v : ℕ × ℕ). settled 1 (v .0) (v .1)) unshared ≡ map (λ (v : ℕ × ℕ). 21) unshared
   pub none : map (λ (v : ℕ × ℕ). settled 0 (v .0) (v .1)) unshared ≡ map (λ (v : ℕ × ℕ). 0) unshared
 
-pub versions-hold : VersionsSettled
+versions-hold : VersionsSettled
 unfolding computing
 versions-hold = record { answering = refl; originating = refl; refused = refl; none = refl }
 
@@ -306,7 +309,10 @@ collecting =
     ∷ completesNone (four ++ (0x55 ∷ 0xED ∷ 0x55 ∷ 0xED ∷ 0x67 ∷ 0x55 ∷ []))
     ∷ completesNone (four ++ (0x55 ∷ 0xED ∷ 0x55 ∷ 0xED ∷ 0xED ∷ 0x55 ∷ []))
     ∷ completesNone (four ++ (0x55 ∷ 0xED ∷ 0x55 ∷ 0xED ∷ 0x55 ∷ 0x43 ∷ []))
-    -- a DL begins a group, and a DL that drops one begins another
+    -- a DL begins a group, and no DH does, after a dropped one neither
+    ∷ completesNone (four ++ (0xED ∷ 0x55 ∷ 0xED ∷ 0x55 ∷ []))
+    ∷ completesNone (four ++ (0x55 ∷ 0x43 ∷ 0xED ∷ 0x55 ∷ 0xED ∷ 0x55 ∷ []))
+    -- and a DL that drops one begins another
     ∷ votes (four ++ (0x15 ∷ begun))
     ∷ votes (four ++ (0x15 ∷ 0x1D ∷ 0x15 ∷ begun))
     ∷ votes (four ++ (0x15 ∷ 0x1D ∷ 0x15 ∷ 0x1D ∷ 0x15 ∷ begun))
@@ -332,7 +338,7 @@ collecting =
     ∷ row (started (answerer 1 (profile 7 0 ∷ []))) (hearsAll (replicate 16 0x07 ++ group 0x25 0x0D) 0x57)
     ∷ []
 
-pub collecting-holds : defined collecting ≡ written collecting
+collecting-holds : defined collecting ≡ written collecting
 unfolding computing
 collecting-holds = refl
 
@@ -357,6 +363,26 @@ clock =
     (map (λ heard. passes heard leading 0x43 (outcome.Refused 21 43)) (0x57 ∷ 0x07 ∷ 0x15 ∷ 0x1D ∷ 0x43 ∷ 0x67 ∷ 0x7F ∷ []))
     ∷ []
 
-pub clock-holds : defined clock ≡ written clock
+clock-holds : defined clock ≡ written clock
 unfolding computing
 clock-holds = refl
+
+-- All of these.
+pub record ExchangeFigures : Type 0 where
+  pub starts : Starts
+  pub answers : defined answering ≡ written answering
+  pub originates : defined originating ≡ written originating
+  pub settles : VersionsSettled
+  pub collects : defined collecting ≡ written collecting
+  pub clocks : defined clock ≡ written clock
+
+pub exchange-figures : ExchangeFigures
+exchange-figures =
+    record {
+      starts = starts-hold;
+      answers = answering-holds;
+      originates = originating-holds;
+      settles = versions-hold;
+      collects = collecting-holds;
+      clocks = clock-holds;
+    }

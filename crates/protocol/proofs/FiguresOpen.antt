@@ -72,13 +72,23 @@ opening f pair byte =
     ++ map (λ b. sends f (offers 1) b false) pair
     ++ (sends f (offers 1) byte true ∷ []))
 
--- the first bytes have gone
-abbrev gone : On → ℕ → List Slot → Row
-gone f n slots = row (at f (sent n Empty 0 0) idleGot) slots
+-- a slot: what is given, the byte that goes, and whether the unit offered is taken
+abbrev Sends : Type 0
+Sends = Drive × ℕ × Bool
 
--- so had the last Sd and the one before it BK on or off
-abbrev bks : ℕ → ℕ → List Slot → Row
-bks bk1 bk2 slots = row (at (words 8) (sent 16 Empty bk1 bk2) idleGot) slots
+abbrev sendsEach : On → List Sends → List Slot
+sendsEach f slots = map (λ (s : Sends). sends f (s .0) (s .1) (s .2)) slots
+
+-- so many of the first bytes have gone
+abbrev gone : On → ℕ → List Sends → Row
+gone f n slots = row (at f (sent n Empty 0 0) idleGot) (sendsEach f slots)
+
+-- words of 8 bits: the last Sd and the one before it had BK on or off; and so, but the DH of a nibble A is due
+abbrev bks : ℕ → ℕ → List Sends → Row
+bks bk1 bk2 slots = row (at (words 8) (sent 16 Empty bk1 bk2) idleGot) (sendsEach (words 8) slots)
+
+abbrev owes : ℕ → ℕ → List Sends → Row
+owes bk1 bk2 slots = row (at (words 8) (sent 16 (Holds 0xA) bk1 bk2) idleGot) (sendsEach (words 8) slots)
 
 abbrev sending : List Row
 sending =
@@ -90,41 +100,42 @@ sending =
     ∷ opening (seven 2) (0x05 ∷ 0x0D ∷ []) 0x81
     ∷ opening eight (0x05 ∷ 0x0D ∷ []) 0x80
     -- With none taken, forms 0 and 6 send Sd, forms 7 and 8 send the unit of all ones.
-    ∷ gone (words 8) 16 (sends (words 8) nothing 0x43 false ∷ sends (words 8) (offers 0xA5) 0x55 true ∷ sends (words 8) nothing 0xAD false ∷ sends (words 8) nothing 0x43 false ∷ [])
-    ∷ gone six 16 (sends six nothing 0x43 false ∷ sends six (offers 0x21) 0x85 true ∷ sends six (offers 0x3F) 0xFD true ∷ sends six nothing 0x43 false ∷ [])
-    ∷ gone (seven 1) 18 (sends (seven 1) nothing 0xFF false ∷ sends (seven 1) (offers 3) 0x07 true ∷ sends (seven 1) (offers 64) 0x81 true ∷ sends (seven 1) nothing 0xFF false ∷ [])
-    ∷ gone (seven 2) 18 (sends (seven 2) nothing 0xFF false ∷ sends (seven 2) (offers 3) 0xC1 true ∷ sends (seven 2) (offers 64) 0x03 true ∷ sends (seven 2) nothing 0xFF false ∷ [])
-    ∷ gone eight 18 (sends eight nothing 0xFF false ∷ sends eight (offers 3) 0xC0 true ∷ sends eight (offers 128) 0x01 true ∷ sends eight nothing 0xFF false ∷ [])
+    ∷ gone (words 8) 16
+    ((nothing, 0x43, false) ∷ (offers 0xA5, 0x55, true) ∷ (nothing, 0xAD, false) ∷ (nothing, 0x43, false) ∷ [])
+    ∷ gone six 16 ((nothing, 0x43, false) ∷ (offers 0x21, 0x85, true) ∷ (offers 0x3F, 0xFD, true) ∷ (nothing, 0x43, false) ∷ [])
+    ∷ gone (seven 1) 18 ((nothing, 0xFF, false) ∷ (offers 3, 0x07, true) ∷ (offers 64, 0x81, true) ∷ (nothing, 0xFF, false) ∷ [])
+    ∷ gone (seven 2) 18 ((nothing, 0xFF, false) ∷ (offers 3, 0xC1, true) ∷ (offers 64, 0x03, true) ∷ (nothing, 0xFF, false) ∷ [])
+    ∷ gone eight 18 ((nothing, 0xFF, false) ∷ (offers 3, 0xC0, true) ∷ (offers 128, 0x01, true) ∷ (nothing, 0xFF, false) ∷ [])
     -- BK is the break flag in form 0, else 0.
-    ∷ gone (words 8) 0 (sends (words 8) breaks 0x4B false ∷ sends (words 8) nothing 0x43 false ∷ [])
-    ∷ gone six 0 (sends six breaks 0x43 false ∷ [])
-    ∷ gone six 16 (sends six breaks 0x43 false ∷ sends six (breaksOffering 0x21) 0x85 true ∷ [])
-    ∷ gone (seven 1) 0 (sends (seven 1) breaks 0x43 false ∷ [])
-    ∷ gone (seven 2) 18 (sends (seven 2) (breaksOffering 1) 0x81 true ∷ [])
-    ∷ gone eight 0 (sends eight breaks 0x43 false ∷ [])
+    ∷ gone (words 8) 0 ((breaks, 0x4B, false) ∷ (nothing, 0x43, false) ∷ [])
+    ∷ gone six 0 ((breaks, 0x43, false) ∷ [])
+    ∷ gone six 16 ((breaks, 0x43, false) ∷ (breaksOffering 0x21, 0x85, true) ∷ [])
+    ∷ gone (seven 1) 0 ((breaks, 0x43, false) ∷ [])
+    ∷ gone (seven 2) 18 ((breaksOffering 1, 0x81, true) ∷ [])
+    ∷ gone eight 0 ((breaks, 0x43, false) ∷ [])
     -- In form 0 a DH due goes first; while the flag is on, Sd goes; no unit is taken unless the last two Sd sent had BK 0.
     ∷ gone (words 8) 16
-    (sends (words 8) (offers 0xA5) 0x55 true
-    ∷ sends (words 8) (breaksOffering 0x3C) 0xAD false
-    ∷ sends (words 8) (breaksOffering 0x3C) 0x4B false
-    ∷ sends (words 8) (offers 0x3C) 0x43 false
-    ∷ sends (words 8) (offers 0x3C) 0x43 false
-    ∷ sends (words 8) (offers 0x3C) 0xC5 true
-    ∷ sends (words 8) (offers 0xA5) 0x3D false
-    ∷ sends (words 8) (offers 0xA5) 0x55 true
+    ((offers 0xA5, 0x55, true)
+    ∷ (breaksOffering 0x3C, 0xAD, false)
+    ∷ (breaksOffering 0x3C, 0x4B, false)
+    ∷ (offers 0x3C, 0x43, false)
+    ∷ (offers 0x3C, 0x43, false)
+    ∷ (offers 0x3C, 0xC5, true)
+    ∷ (offers 0xA5, 0x3D, false)
+    ∷ (offers 0xA5, 0x55, true)
     ∷ [])
-    ∷ bks 0 0 (sends (words 8) (offers 0xA5) 0x55 true ∷ [])
-    ∷ bks 1 0 (sends (words 8) (offers 0xA5) 0x43 false ∷ sends (words 8) (offers 0xA5) 0x43 false ∷ sends (words 8) (offers 0xA5) 0x55 true ∷ [])
-    ∷ bks 0 1 (sends (words 8) (offers 0xA5) 0x43 false ∷ sends (words 8) (offers 0xA5) 0x55 true ∷ [])
-    ∷ bks 0 0 (sends (words 8) (breaksOffering 0xA5) 0x4B false ∷ [])
+    ∷ bks 0 0 ((offers 0xA5, 0x55, true) ∷ [])
+    ∷ bks 1 0 ((offers 0xA5, 0x43, false) ∷ (offers 0xA5, 0x43, false) ∷ (offers 0xA5, 0x55, true) ∷ [])
+    ∷ bks 0 1 ((offers 0xA5, 0x43, false) ∷ (offers 0xA5, 0x55, true) ∷ [])
+    ∷ bks 0 0 ((breaksOffering 0xA5, 0x4B, false) ∷ [])
     -- a DH leaves what the last two Sd had as it was
-    ∷ row (at (words 8) (sent 16 (Holds 0xA) 1 0) idleGot)
-    (sends (words 8) (offers 1) 0xAD false ∷ sends (words 8) (offers 1) 0x43 false ∷ sends (words 8) (offers 1) 0x43 false ∷ sends (words 8) (offers 1) 0x15 true ∷ [])
-    ∷ row (at (words 8) (sent 16 (Holds 0xA) 0 1) idleGot)
-    (sends (words 8) (offers 1) 0xAD false ∷ sends (words 8) (offers 1) 0x43 false ∷ sends (words 8) (offers 1) 0x15 true ∷ [])
+    ∷ owes 1 0
+    ((offers 1, 0xAD, false) ∷ (offers 1, 0x43, false) ∷ (offers 1, 0x43, false) ∷ (offers 1, 0x15, true) ∷ [])
+    ∷ owes 0 1
+    ((offers 1, 0xAD, false) ∷ (offers 1, 0x43, false) ∷ (offers 1, 0x15, true) ∷ [])
     ∷ []
 
-pub sending-holds : defined sending ≡ written sending
+sending-holds : defined sending ≡ written sending
 unfolding computing
 sending-holds = refl
 
@@ -140,6 +151,11 @@ goes f = cond (eqb (f .entry .form) 7 || eqb (f .entry .form) 8) 0xFF 0x43
 -- a byte comes; these units are delivered and these signals stand
 abbrev comes : On → ℕ → List ℕ → Signals → Slot
 comes f heard units shown = openSlot (f .version) (f .entry) heard nothing (goes f) units false shown
+
+-- these bytes come in this state, and beside each stand the units delivered and the signals after it
+abbrev hearing : On → Inbound → List (ℕ × List ℕ × Signals) → Row
+hearing f i slots =
+    row (at f (sent (firstBytes f) Empty 0 0) i) (map (λ (s : ℕ × List ℕ × Signals). comes f (s .0) (s .1) (s .2)) slots)
 
 -- these bytes come and nothing is delivered; then the last byte, which delivers these units; the signals stay as after two Sdidle
 abbrev reads : On → Inbound → List ℕ → ℕ → List ℕ → Row
@@ -173,7 +189,7 @@ receiving =
     ∷ reads (words 8) idleGot (0x55 ∷ 0x7F ∷ []) 0xAD []
     ∷ reads (words 8) idleGot (0x15 ∷ 0x55 ∷ []) 0xAD (0xA5 ∷ [])
     ∷ reads (words 8) idleGot [] 0xAD []
-    ∷ row (at (words 8) (sent 16 Empty 0 0) (got (Holds 0x5) 0 idle idle)) (comes (words 8) 0xAD (0xA5 ∷ []) idle ∷ comes (words 8) 0xAD [] idle ∷ [])
+    ∷ hearing (words 8) (got (Holds 0x5) 0 idle idle) ((0xAD, 0xA5 ∷ [], idle) ∷ (0xAD, [], idle) ∷ [])
     -- word of w bits, received value taken modulo 2^w
     ∷ reads (words 5) idleGot (0xF5 ∷ []) 0xFD (0x1F ∷ [])
     ∷ reads (words 6) idleGot (0xF5 ∷ []) 0xFD (0x3F ∷ [])
@@ -203,28 +219,28 @@ receiving =
     ∷ reads (seven 1) idleGot (0x0D ∷ 0x05 ∷ []) 0x03 []
     ∷ reads eight idleGot (0x05 ∷ 0x43 ∷ 0x0D ∷ []) 0x03 []
     -- every byte: Sd, Sgvi, the pair again, the unit of all ones, B7 on or off
-    ∷ row (at (seven 1) (sent 18 Empty 0 0) paired)
-    (comes (seven 1) 0x43 (33 ∷ []) idle
-    ∷ comes (seven 1) 0x57 (43 ∷ []) idle
-    ∷ comes (seven 1) 0x05 (2 ∷ []) idle
-    ∷ comes (seven 1) 0x0D (6 ∷ []) idle
-    ∷ comes (seven 1) 0xFF (127 ∷ []) idle
-    ∷ comes (seven 1) 0xFE (127 ∷ []) idle
+    ∷ hearing (seven 1) paired
+    ((0x43, 33 ∷ [], idle)
+    ∷ (0x57, 43 ∷ [], idle)
+    ∷ (0x05, 2 ∷ [], idle)
+    ∷ (0x0D, 6 ∷ [], idle)
+    ∷ (0xFF, 127 ∷ [], idle)
+    ∷ (0xFE, 127 ∷ [], idle)
     ∷ [])
-    ∷ row (at (seven 2) (sent 18 Empty 0 0) paired)
-    (comes (seven 2) 0x43 (66 ∷ []) idle
-    ∷ comes (seven 2) 0x57 (106 ∷ []) idle
-    ∷ comes (seven 2) 0x05 (32 ∷ []) idle
-    ∷ comes (seven 2) 0x0D (48 ∷ []) idle
-    ∷ comes (seven 2) 0xFF (127 ∷ []) idle
-    ∷ comes (seven 2) 0xFE (127 ∷ []) idle
+    ∷ hearing (seven 2) paired
+    ((0x43, 66 ∷ [], idle)
+    ∷ (0x57, 106 ∷ [], idle)
+    ∷ (0x05, 32 ∷ [], idle)
+    ∷ (0x0D, 48 ∷ [], idle)
+    ∷ (0xFF, 127 ∷ [], idle)
+    ∷ (0xFE, 127 ∷ [], idle)
     ∷ [])
-    ∷ row (at eight (sent 18 Empty 0 0) paired)
-    (comes eight 0x43 (194 ∷ []) idle
-    ∷ comes eight 0x05 (160 ∷ []) idle
-    ∷ comes eight 0x0D (176 ∷ []) idle
-    ∷ comes eight 0xFF (255 ∷ []) idle
-    ∷ comes eight 0xFE (127 ∷ []) idle
+    ∷ hearing eight paired
+    ((0x43, 194 ∷ [], idle)
+    ∷ (0x05, 160 ∷ [], idle)
+    ∷ (0x0D, 176 ∷ [], idle)
+    ∷ (0xFF, 255 ∷ [], idle)
+    ∷ (0xFE, 127 ∷ [], idle)
     ∷ [])
     -- Each lead, and BK, takes a new value when the last two Sd received agree on it, starting as if two Sdidle had come: each by itself.
     ∷ shows six ((0xC3, idle) ∷ (0xC3, signals 1 1 0 0 0) ∷ (0x43, signals 1 1 0 0 0) ∷ (0x43, idle) ∷ [])
@@ -239,43 +255,57 @@ receiving =
     ∷ shows six ((0xE3, idle) ∷ (0x93, signals 1 1 0 0 0) ∷ (0x13, signals 1 0 0 1 0) ∷ [])
     ∷ shows six ((0xBB, idle) ∷ (0x43, idle) ∷ (0xBB, idle) ∷ (0x43, idle) ∷ [])
     -- the last two Sd, whatever came between them
-    ∷ row (at six (sent 16 Empty 0 0) idleGot)
-    (comes six 0xC3 [] idle ∷ comes six 0x85 (0x21 ∷ []) idle ∷ comes six 0x57 [] idle ∷ comes six 0xC3 [] (signals 1 1 0 0 0) ∷ comes six 0x85 (0x21 ∷ []) (signals 1 1 0 0 0) ∷ comes six 0x07 [] (signals 1 1 0 0 0) ∷ [])
-    ∷ row (at (words 8) (sent 16 Empty 0 0) idleGot)
-    (comes (words 8) 0xC3 [] idle ∷ comes (words 8) 0x55 [] idle ∷ comes (words 8) 0xAD (0xA5 ∷ []) idle ∷ comes (words 8) 0xC3 [] (signals 1 1 0 0 0) ∷ [])
+    ∷ hearing six idleGot
+    ((0xC3, [], idle)
+    ∷ (0x85, 0x21 ∷ [], idle)
+    ∷ (0x57, [], idle)
+    ∷ (0xC3, [], signals 1 1 0 0 0)
+    ∷ (0x85, 0x21 ∷ [], signals 1 1 0 0 0)
+    ∷ (0x07, [], signals 1 1 0 0 0)
+    ∷ [])
+    ∷ hearing (words 8) idleGot
+    ((0xC3, [], idle) ∷ (0x55, [], idle) ∷ (0xAD, 0xA5 ∷ [], idle) ∷ (0xC3, [], signals 1 1 0 0 0) ∷ [])
     -- Sd bytes count from opening, in forms 7 and 8 until the pair.
-    ∷ row (at (seven 1) (sent 18 Empty 0 0) idleGot)
-    (comes (seven 1) 0xC3 [] idle
-    ∷ comes (seven 1) 0xC3 [] (signals 1 1 0 0 0)
-    ∷ comes (seven 1) 0x43 [] (signals 1 1 0 0 0)
-    ∷ comes (seven 1) 0x05 [] (signals 1 1 0 0 0)
-    ∷ comes (seven 1) 0x0D [] (signals 1 1 0 0 0)
-    ∷ comes (seven 1) 0x43 (33 ∷ []) (signals 1 1 0 0 0)
-    ∷ comes (seven 1) 0x43 (33 ∷ []) (signals 1 1 0 0 0)
+    ∷ hearing (seven 1) idleGot
+    ((0xC3, [], idle)
+    ∷ (0xC3, [], signals 1 1 0 0 0)
+    ∷ (0x43, [], signals 1 1 0 0 0)
+    ∷ (0x05, [], signals 1 1 0 0 0)
+    ∷ (0x0D, [], signals 1 1 0 0 0)
+    ∷ (0x43, 33 ∷ [], signals 1 1 0 0 0)
+    ∷ (0x43, 33 ∷ [], signals 1 1 0 0 0)
     ∷ [])
     -- While BK stands on in form 0, data is ignored: one Sd with BK on is not enough, nor one with BK off.
     ∷ ignores (standing 1 1) (0x55 ∷ 0xAD ∷ []) (signals 0 1 0 0 1)
     ∷ ignores (got (Holds 0x5) 0 (signals 0 1 0 0 1) (signals 0 1 0 0 1)) (0xAD ∷ []) (signals 0 1 0 0 1)
     ∷ ignores (standing 0 1) (0x55 ∷ 0xAD ∷ []) (signals 0 1 0 0 1)
     ∷ reads (words 8) (standing 1 0) (0x55 ∷ []) 0xAD (0xA5 ∷ [])
-    ∷ row (at (words 8) (sent 16 Empty 0 0) idleGot)
-    (comes (words 8) 0x4B [] idle
-    ∷ comes (words 8) 0x55 [] idle
-    ∷ comes (words 8) 0xAD (0xA5 ∷ []) idle
-    ∷ comes (words 8) 0x4B [] (signals 0 1 0 0 1)
-    ∷ comes (words 8) 0x55 [] (signals 0 1 0 0 1)
-    ∷ comes (words 8) 0xAD [] (signals 0 1 0 0 1)
-    ∷ comes (words 8) 0x43 [] (signals 0 1 0 0 1)
-    ∷ comes (words 8) 0x55 [] (signals 0 1 0 0 1)
-    ∷ comes (words 8) 0xAD [] (signals 0 1 0 0 1)
-    ∷ comes (words 8) 0x43 [] idle
-    ∷ comes (words 8) 0x55 [] idle
-    ∷ comes (words 8) 0xAD (0xA5 ∷ []) idle
+    ∷ hearing (words 8) idleGot
+    ((0x4B, [], idle)
+    ∷ (0x55, [], idle)
+    ∷ (0xAD, 0xA5 ∷ [], idle)
+    ∷ (0x4B, [], signals 0 1 0 0 1)
+    ∷ (0x55, [], signals 0 1 0 0 1)
+    ∷ (0xAD, [], signals 0 1 0 0 1)
+    ∷ (0x43, [], signals 0 1 0 0 1)
+    ∷ (0x55, [], signals 0 1 0 0 1)
+    ∷ (0xAD, [], signals 0 1 0 0 1)
+    ∷ (0x43, [], idle)
+    ∷ (0x55, [], idle)
+    ∷ (0xAD, 0xA5 ∷ [], idle)
     ∷ [])
     -- and in form 6 it is not
-    ∷ row (at six (sent 16 Empty 0 0) (standing 1 1)) (comes six 0x85 (0x21 ∷ []) (signals 0 1 0 0 1) ∷ [])
+    ∷ hearing six (standing 1 1) ((0x85, 0x21 ∷ [], signals 0 1 0 0 1) ∷ [])
     ∷ []
 
-pub receiving-holds : defined receiving ≡ written receiving
+receiving-holds : defined receiving ≡ written receiving
 unfolding computing
 receiving-holds = refl
+
+-- All of these.
+pub record OpenFigures : Type 0 where
+  pub sends : defined sending ≡ written sending
+  pub receives : defined receiving ≡ written receiving
+
+pub open-figures : OpenFigures
+open-figures = record { sends = sending-holds; receives = receiving-holds }

@@ -8,7 +8,9 @@ use lib.ListN.{replicate, take}
 use Rattle.book.specs.declared.Entry.{Entry}
 use Rattle.book.specs.declared.Book.{Book}
 use Rattle.book.specs.Book.{noEntry}
-use Rattle.protocol.specs.Slot.{started, slotOf, refuses}
+use Rattle.channel.specs.declared.unit.Form.the-variants.{Six}
+use Rattle.protocol.specs.Sent.{Silence, Unit}
+use Rattle.protocol.specs.Slot.{started, step, slotStep, slotOf, refuses}
 use Rattle.protocol.specs.Computing.{computing}
 use Rattle.protocol.specs.declared.Awaited.{Awaited}
 use Rattle.protocol.specs.declared.Awaited.the-variants.{Run, Group, Nothing}
@@ -20,6 +22,7 @@ use Rattle.protocol.specs.declared.Inbound.{Inbound}
 use Rattle.protocol.specs.declared.Phase.{Phase}
 use Rattle.protocol.specs.declared.Phase.the-variants as phase
 use Rattle.protocol.specs.declared.Endpoint.{Endpoint}
+use Rattle.protocol.specs.declared.Delivered.the-variants as delivered
 use Rattle.protocol.specs.declared.Outcome.the-variants as outcome
 use Rattle.protocol.specs.declared.Reply.{Reply}
 use Rattle.protocol.specs.declared.Reply.the-variants as reply
@@ -47,6 +50,12 @@ refused unit = record { heard = 0x43; given = offers unit; reply = reply.Refused
 abbrev taken : ℕ → Entry → ℕ → ℕ → Slot
 taken version e unit byte = openSlot version e 0x43 (offers unit) byte [] true (signals 0 1 0 0 0)
 
+-- an originator that opens when it hears ED
+abbrev opensNext : Endpoint
+opensNext =
+    exchanging (bookOf 0 3 500 (profile 6 0 ∷ [])) 300 2 (Group 5 5) (six (0x5 ∷ 0xE ∷ 0x5 ∷ 0xE ∷ 0x5 ∷ []))
+    (six (3 ∷ 0xA1 ∷ 0xB2 ∷ 0xC3 ∷ 0xD4 ∷ [])) Done
+
 -- 12: unit out of range.
 abbrev twelve : List Row
 twelve =
@@ -67,13 +76,13 @@ twelve =
     ∷ [])
     -- only an end open before the slot: an end not open ignores the offer, also in the slot in which it opens
     ∷ row (started (bookOn 3 (profile 6 0))) (passes 0x43 (offers 255) 0x57 outcome.Exchanging ∷ [])
-    ∷ row (exchanging (bookOf 0 3 500 (profile 6 0 ∷ [])) 300 2 (Group 5 5) (six (0x5 ∷ 0xE ∷ 0x5 ∷ 0xE ∷ 0x5 ∷ [])) (six (3 ∷ 0xA1 ∷ 0xB2 ∷ 0xC3 ∷ 0xD4 ∷ [])) Done)
+    ∷ row opensNext
     (passes 0xED (offers 255) 0x43 (outcome.Open 2 (profile 6 0) 300 (signals 0 1 0 0 0)) ∷ refused 255 ∷ [])
     ∷ row (record { book = bookOn 3 (profile 6 0); nibbles = six []; values = six []; phase = phase.Refused 21 43 })
     (passes 0x43 (offers 255) 0x43 (outcome.Refused 21 43) ∷ [])
     ∷ []
 
-pub twelve-holds : defined twelve ≡ written twelve
+twelve-holds : defined twelve ≡ written twelve
 unfolding computing
 twelve-holds = refl
 
@@ -85,10 +94,26 @@ pub record GivenBack : Type 0 where
   pub twelve : slotOf (units 6 2 16) 0x85 (offers 64) ≡ refuses (units 6 2 16) 12
   pub thirteen : slotOf badOpen 0x85 (offers 63) ≡ refuses badOpen 13
   pub both : slotOf badOpen 0x85 (offers 64) ≡ refuses badOpen 13
+  -- nothing is sent, delivered or taken in such a slot, and in another what the slot says
+  pub silent12 : slotStep (units 6 2 16) 0x85 (offers 64) ≡ step (units 6 2 16) Silence
+  pub silent13 : slotStep badOpen 0x85 (offers 63) ≡ step badOpen Silence
+  pub sends : slotStep (units 6 2 16) 0x85 (offers 63) .sent ≡ Unit Six 63
+  pub delivers : slotStep (units 6 2 16) 0x85 (offers 63) .delivered ≡ delivered.Unit 0x21
+  pub takes : slotStep (units 6 2 16) 0x85 (offers 63) .taken ≡ true
 
-pub given-back : GivenBack
+given-back : GivenBack
 unfolding computing
-given-back = record { twelve = refl; thirteen = refl; both = refl }
+given-back =
+    record {
+      twelve = refl;
+      thirteen = refl;
+      both = refl;
+      silent12 = refl;
+      silent13 = refl;
+      sends = refl;
+      delivers = refl;
+      takes = refl;
+    }
 
 -- 13: the number of the reply to each state, 0 where it passes.
 
@@ -110,10 +135,14 @@ said rows = map (λ (r : Endpoint × ℕ). r .1) rows
 abbrev kept : ℕ → ℕ → ℕ → ℕ → List Entry → Endpoint
 kept role mask limit n es = started (record { role = role; mask = mask; limit = limit; n = n; entries = es })
 
+-- the entry whose first parameter is p
+abbrev numbered : ℕ → Entry
+numbered p = record { p0 = p; p1 = 2; p2 = 3; p3 = 4; p4 = 5; form = 6; w = 0 }
+
 abbrev books : Ranged
 books =
     (kept 0 3 425 1 (profile 7 0 ∷ replicate 7 noEntry), 0)
-    ∷ (kept 1 3 425 8 (map (λ p. record { p0 = p; p1 = 2; p2 = 3; p3 = 4; p4 = 5; form = 7; w = 0 }) (1 ∷ 2 ∷ 3 ∷ 4 ∷ 5 ∷ 6 ∷ 7 ∷ 8 ∷ [])), 0)
+    ∷ (kept 1 3 425 8 (map numbered (1 ∷ 2 ∷ 3 ∷ 4 ∷ 5 ∷ 6 ∷ 7 ∷ 8 ∷ [])), 0)
     ∷ (kept 2 3 425 1 (profile 7 0 ∷ replicate 7 noEntry), 13)
     ∷ (kept 0 4 425 1 (profile 7 0 ∷ replicate 7 noEntry), 13)
     ∷ (kept 0 3 424 1 (profile 7 0 ∷ replicate 7 noEntry), 13)
@@ -266,7 +295,7 @@ opens =
     ∷ (openSince (bookOn 3 (profile 6 0)) 300 3 0 [] (sent 16 Empty 0 0) idleGot, 13)
     ∷ (openSince (bookOn 3 (profile 6 0)) 300 0 0 [] (sent 16 Empty 0 0) idleGot, 13)
     ∷ (openSince (bookOn 1 (profile 6 0)) 300 2 0 [] (sent 16 Empty 0 0) idleGot, 13)
-    ∷ (openSince (bookOf 1 3 500 (profile 7 0 ∷ record { p0 = 0; p1 = 0; p2 = 0; p3 = 0; p4 = 0; form = 6; w = 0 } ∷ [])) 300 2 1 [] (sent 16 Empty 0 0) idleGot, 0)
+    ∷ (openSince (bookOf 1 3 500 (profile 7 0 ∷ numbered 1 ∷ [])) 300 2 1 [] (sent 16 Empty 0 0) idleGot, 0)
     ∷ (openSince (bookOn 3 (profile 6 0)) 300 2 1 [] (sent 16 Empty 0 0) idleGot, 13)
     ∷ (openSince (bookOn 3 (profile 6 0)) 300 2 0 (1 ∷ []) (sent 16 Empty 0 0) idleGot, 13)
     -- first bytes sent: at most 16, in forms 7 and 8 at most 18
@@ -334,6 +363,15 @@ pub record RangesHold : Type 0 where
   pub opened : told opens ≡ said opens
   pub refused : told refusals ≡ said refusals
 
-pub ranges-hold : RangesHold
+ranges-hold : RangesHold
 unfolding computing
 ranges-hold = record { kept = refl; counted = refl; sending = refl; opened = refl; refused = refl }
+
+-- All of these.
+pub record RefusalFigures : Type 0 where
+  pub out-of-range : defined twelve ≡ written twelve
+  pub given-back : GivenBack
+  pub ranges : RangesHold
+
+pub refusal-figures : RefusalFigures
+refusal-figures = record { out-of-range = twelve-holds; given-back = given-back; ranges = ranges-hold }

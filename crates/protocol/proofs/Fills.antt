@@ -1,6 +1,6 @@
 -- A unit that goes was offered and taken, or is the all-ones fill; so is each that was carried. Assumes nothing.
 use mathlib.Core.Path.{_≡_, refl, sym, ap, _∙_, subst}
-use mathlib.Core.Bool.{Bool, true, false}
+use mathlib.Core.Bool.{Bool, true, false, _&&_}
 use mathlib.Core.List.{List, [], _∷_, _++_}
 use Prim.Native.Nat.{ℕ, zero, suc, _+_, _-_, _≤_, _<_}
 use native.Mathlib.Nat.{not-suc-le-zero, add-zero}
@@ -13,10 +13,11 @@ use Rattle.ground.proofs.Test.{either-way}
 use Rattle.channel.specs.declared.unit.Form.{Form}
 use Rattle.channel.specs.declared.unit.Form.the-variants.{Six, SevenV1, SevenV2, Eight}
 use Rattle.channel.specs.Forms.{unitsOf}
-use Rattle.protocol.specs.Sent.{Sent, Alone, Part, Unit}
+use Rattle.protocol.specs.Sent.{Sent, Silence, Alone, Part, Unit}
 use Rattle.protocol.specs.Opened.{Writing, pairForm, openingBytes, openingSd, writesUnit, held, writesOffer, writesDue, writesOpening, writesData, writing, shapeOf}
 use Rattle.protocol.specs.Exchange.{entryOf}
-use Rattle.protocol.specs.Slot.{openStep, stepAt, outcomeAt}
+use Rattle.protocol.specs.Ranges.{wellFormed}
+use Rattle.protocol.specs.Slot.{Step, openStep, stepAt, offerAllowed, outcomeAt, slotStep}
 use Rattle.protocol.specs.Call.{endAt, sentAt, takenAt}
 use Rattle.protocol.specs.Carried.{fill, offered, carried, carriedBefore}
 use Rattle.protocol.specs.Delivery.{AllOnes, Offered, Filled, CameFrom}
@@ -101,17 +102,23 @@ phase-told e heard g (Refused number slot) = quiet-told false (g .offer) _ refl 
 module _ (e : Endpoint) (heard : ℕ → ℕ) (given : ℕ → Drive) where
   -- in each slot of a call
   pub told : (t : ℕ) → Told (takenAt e heard given t) (given t .offer) (sentAt e heard given t)
-  told t = phase-told (endAt e heard given t) (heard t) (given t) (endAt e heard given t .phase)
+  unfolding slotStep
+  told t =
+      let end = endAt e heard given t in
+      either-way (λ (s : Step). Told (s .taken) (given t .offer) (s .sent)) (wellFormed end && offerAllowed end (given t) (end .phase))
+      (phase-told end (heard t) (given t) (end .phase)) (quiet-told false (given t .offer) _ refl refl)
 
   -- a slot carries one unit at most
   one-carried : (taken : Bool) (o : Offer) (sent : Sent) → length (carried taken o sent) ≤ 1
   one-carried true offer.Nothing sent = omega arith
   one-carried true (offer.Unit u) sent = omega arith
+  one-carried false o Silence = omega arith
   one-carried false o (Alone b) = omega arith
   one-carried false o (Part place value) = omega arith
   one-carried false o (Unit f u) = omega arith
 
   filled-by : (sent : Sent) → ((f : Form) (u : ℕ) → sent ≡ Unit f u → AllOnes f u) → 1 ≤ length (fill sent) → Filled sent (getD (fill sent) 0 0)
+  filled-by Silence f l = absurd (omega arith)
   filled-by (Alone b) f l = absurd (omega arith)
   filled-by (Part place value) f l = absurd (omega arith)
   filled-by (Unit g u) f l = record { form = g; sent = refl; ones = f g u refl }

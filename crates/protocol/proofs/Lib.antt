@@ -2,6 +2,7 @@ pub mod FigureRows
 pub mod FiguresExchange
 pub mod FiguresOpen
 pub mod FiguresRefusals
+pub mod FiguresAnswers
 pub mod Figures
 pub mod Segments
 pub mod Core

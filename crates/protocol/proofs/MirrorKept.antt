@@ -9,7 +9,7 @@ use Rattle.channel.specs.Bytes.{sdByte}
 use Rattle.channel.specs.Kinds.{kindOf}
 use Rattle.channel.specs.Forms.{unitByte, arrivesAs}
 use Rattle.channel.proofs.ReadBack.{b8-ignored, sd-read}
-use Rattle.protocol.specs.Sent.{Sent, Alone, Part, Unit}
+use Rattle.protocol.specs.Sent.{Sent, Silence, Alone, Part, Unit}
 use Rattle.protocol.specs.Opened.{Reading, Writing, reads, readsSd}
 use Rattle.protocol.specs.Carried.{carried, unitsOut, Shown, shownNext}
 use Rattle.protocol.specs.declared.Half.{Half}
@@ -20,6 +20,7 @@ use Rattle.protocol.specs.declared.Offer.{Offer}
 
 -- what of one byte sent may arrive
 abbrev pub ArrivesOne : Sent → ℕ → Type 0
+ArrivesOne Silence heard = Prim.Unit {0}
 ArrivesOne (Alone b) heard = heard / 2 ≡ b / 2
 ArrivesOne (Part place value) heard = Prim.Unit {0}
 ArrivesOne (Unit f u) heard = arrivesAs f (unitByte f u) heard

@@ -15,7 +15,7 @@ use Rattle.channel.specs.Forms.{unitByte, arrivesAs}
 use Rattle.channel.specs.Vote.{asSent}
 use Rattle.channel.specs.declared.unit.Form.{Form}
 use Rattle.channel.specs.declared.unit.Form.the-variants.{Six, SevenV1, SevenV2, Eight}
-use Rattle.protocol.specs.Sent.{Sent, Alone, Part, Unit, groupByte, byteSent}
+use Rattle.protocol.specs.Sent.{Sent, Silence, Alone, Part, Unit, groupByte, byteSent}
 use Rattle.protocol.specs.Damage.{copyHeard, GroupArrives, Arrives}
 use Rattle.protocol.specs.OneCopyWrong.{inverted, b8Inverted, nibbleInverted, unitDamaged, inSecondCopy, partDamaged, damaged, isEight}
 use Rattle.protocol.proofs.WithinDamage.{low-bit, dl-low, dh-low, Within, copy-as-sent, arrives}
@@ -107,6 +107,7 @@ nibble-b8 b = last-bit (inverted (B 8 b)) _ (omega arith) ∙ omega arith
 
 pub b8-wrong : (s : Sent) → isEight s ≡ false → damaged s % 2 ≡ inverted (byteSent s % 2)
 unfolding damaged byteSent
+b8-wrong Silence e = b8-b8 sgidle
 b8-wrong (Alone b) e = b8-b8 b
 b8-wrong (Part place v) e =
     either-way (λ b. b % 2 ≡ inverted (groupByte place v % 2)) (inSecondCopy place) (nibble-b8 (groupByte place v)) (b8-b8 (groupByte place v))

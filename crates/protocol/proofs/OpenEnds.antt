@@ -13,7 +13,7 @@ use Rattle.protocol.specs.Collecting.{noNibbles}
 use Rattle.protocol.specs.Exchange.{entryOf}
 use Rattle.protocol.specs.Opened.{shapeOf, hasUnit, reading, readsWord, writing, writesOpening, freshLine, idleLeads, idleSignals}
 use Rattle.protocol.specs.Ranges.{wellFormed}
-use Rattle.protocol.specs.Slot.{stepOf, opensHearing, outcomeAt, outcomeOf}
+use Rattle.protocol.specs.Slot.{slotStep, opensHearing, outcomeAt, outcomeOf}
 use Rattle.protocol.specs.Call.{endAt, sentAt, deliveredAt, takenAt, standsAt, Allowed}
 use Rattle.protocol.specs.Carried.{carried, fill}
 use Rattle.protocol.specs.Delivery.{signalsOf}
@@ -181,7 +181,7 @@ module _ (e : Endpoint) (heard : ℕ → ℕ) (given : ℕ → Drive) (kept : (t
 
   -- opened by a byte received in slot s
   module _ (i : ℕ) (b : Book) (x : Exchange) (start : endAt e heard given (suc s) ≡ opensHearing b s x i (given s) .state)
-      (first : stepOf (endAt e heard given s) (heard s) (given s) ≡ opensHearing b s x i (given s)) where
+      (first : slotStep (endAt e heard given s) (heard s) (given s) ≡ opensHearing b s x i (given s)) where
     abbrev as-laid : Shape
     as-laid = shapeOf (entryOf b i) (x .version)
 

@@ -8,7 +8,7 @@ use Rattle.book.specs.declared.Book.{Book}
 use Rattle.protocol.specs.Exchange.{entryOf}
 use Rattle.protocol.specs.Opened.{shapeOf, hasUnit, reading, writing}
 use Rattle.protocol.specs.Ranges.{wellFormed}
-use Rattle.protocol.specs.Slot.{openStep, stepAt, stepOf, offerAllowed}
+use Rattle.protocol.specs.Slot.{Step, openStep, stepAt, stepOf, offerAllowed, slotStep}
 use Rattle.protocol.specs.Call.{endAt, sentAt, deliveredAt, takenAt, Allowed}
 use Rattle.protocol.specs.declared.Shape.{Shape}
 use Rattle.protocol.specs.declared.Outbound.{Outbound}
@@ -19,7 +19,7 @@ use Rattle.protocol.specs.declared.Endpoint.{Endpoint}
 use Rattle.protocol.specs.declared.Offer.the-variants as offer
 use Rattle.protocol.specs.declared.Drive.{Drive}
 use Rattle.protocol.specs.declared.SlotAnswer.{SlotAnswer}
-use Rattle.protocol.proofs.SlotPasses.{slot-passes}
+use Rattle.protocol.proofs.SlotPasses.{slot-passes, step-passes}
 
 -- the sending half after n slots of what is given, the receiving half after n bytes
 unfoldable pub outs : Shape → (ℕ → Drive) → Outbound → ℕ → Outbound
@@ -57,17 +57,25 @@ module _ (e : Endpoint) (heard : ℕ → ℕ) (given : ℕ → Drive) (kept : (t
   open-run zero = rw add-zero start
   open-run (suc n) = rw add-suc (one-slot n (open-run n))
 
+  -- what a slot brings
+  run-step : (n : ℕ) → slotStep (endAt e heard given (x + n)) (heard (x + n)) (given (x + n))
+      ≡ openStep (opened n) slot version i (record { outbound = out n; inbound = inn n }) (heard (x + n)) (given (x + n))
+  unfolding stepAt
+  run-step n =
+      step-passes (endAt e heard given (x + n)) (heard (x + n)) (given (x + n)) (kept (x + n)) (allowed (x + n))
+      ∙ ap (λ u. stepOf u (heard (x + n)) (given (x + n))) (open-run n)
+
   pub run-sends : (n : ℕ) → sentAt e heard given (x + n) ≡ writing laid (out n) (given (x + n)) .sent
-  unfolding stepAt openStep
-  run-sends n = ap (λ u. stepOf u (heard (x + n)) (given (x + n)) .sent) (open-run n)
+  unfolding openStep
+  run-sends n = ap (λ (s : Step). s .sent) (run-step n)
 
   pub run-takes : (n : ℕ) → takenAt e heard given (x + n) ≡ writing laid (out n) (given (x + n)) .taken
-  unfolding stepAt openStep
-  run-takes n = ap (λ u. stepOf u (heard (x + n)) (given (x + n)) .taken) (open-run n)
+  unfolding openStep
+  run-takes n = ap (λ (s : Step). s .taken) (run-step n)
 
   pub run-delivers : (n : ℕ) → deliveredAt e heard given (x + n) ≡ reading laid (inn n) (heard (x + n)) .delivered
-  unfolding stepAt openStep
-  run-delivers n = ap (λ u. stepOf u (heard (x + n)) (given (x + n)) .delivered) (open-run n)
+  unfolding openStep
+  run-delivers n = ap (λ (s : Step). s .delivered) (run-step n)
 
   -- an offer that is allowed has a unit of the form
   pub run-allowed : (n u : ℕ) → given (x + n) .offer ≡ offer.Unit u → hasUnit laid u ≡ true

@@ -1,6 +1,7 @@
 -- The first half of what is promised of the joined pair: both ends open alike, or both refuse alike with the true reason. Assumes nothing.
 use mathlib.Core.Path.{_≡_, refl, sym, ap, _∙_, subst₂}
 use mathlib.Core.Bool.{true, false}
+use mathlib.Core.Logic.{_⊎_, inl, inr}
 use Prim.Native.Nat.{ℕ, _+_, _*_}
 use native.Mathlib.Omega.{arith}
 use lib.Dec.{eqb}
@@ -25,6 +26,20 @@ as-o b e = ap (λ r. record { role = r; mask = b .mask; limit = b .limit; n = b 
 
 as-a : (b : Book) → b .role ≡ answering → bookA (b .mask) (b .limit) (b .n) (b .entries) ≡ b
 as-a b e = ap (λ r. record { role = r; mask = b .mask; limit = b .limit; n = b .n; entries = b .entries }) (sym e)
+
+-- whether the originator's profile is in the answerer's book is decided by the two books
+pub profile-decided : (bo ba : Book) → ProfileIn bo ba ⊎ (ProfileIn bo ba → ⊥)
+profile-decided bo ba = by (matchIn (ba .entries) (paramsOf (entryOf bo 0)) (ba .n)) refl
+  where
+    by : (m : Match) → matchIn (ba .entries) (paramsOf (entryOf bo 0)) (ba .n) ≡ m → ProfileIn bo ba ⊎ (ProfileIn bo ba → ⊥)
+    by (match.Entry i) e =
+        let n = names (ba .entries) (paramsOf (entryOf bo 0)) (ba .n) i e in inl (record { entry = i; below = n .0; same = n .1 })
+    by match.Nothing e =
+        inr
+        (λ f.
+        let z : true ≡ false = sym (f .same) ∙ names-none (ba .entries) (paramsOf (entryOf bo 0)) (ba .n) (f .entry) e (f .below) in
+        let w : _≡_ {A = ℕ} 0 1 = cc in
+        absurd (omega arith))
 
 module _ (d : ℕ) (go ga : ℕ → Drive) (ho ha : ℕ → ℕ) where
   -- what is shown of books that name their role holds of all

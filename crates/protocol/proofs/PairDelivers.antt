@@ -19,7 +19,7 @@ use Rattle.channel.specs.declared.unit.Form.the-variants.{Six, SevenV1, SevenV2
 use Rattle.channel.specs.Versions.{highest}
 use Rattle.channel.specs.Bytes.{sdidle}
 use Rattle.protocol.specs.Collecting.{noNibbles}
-use Rattle.protocol.specs.Sent.{Sent, Alone, Part, Unit}
+use Rattle.protocol.specs.Sent.{Sent, Silence, Alone, Part, Unit}
 use Rattle.protocol.specs.Exchange.{entryOf, identifier, matchIn}
 use Rattle.protocol.specs.Opened.{shapeOf}
 use Rattle.protocol.specs.Slot.{started}
@@ -27,7 +27,7 @@ use Rattle.protocol.specs.Call.{sentAt, deliveredAt}
 use Rattle.protocol.specs.Damage.{Arrives}
 use Rattle.protocol.specs.Pair.{JoinedPair, ProfileIn, sharedVersion}
 use Rattle.protocol.specs.Carried.{carriedBefore, deliveredBefore, lag, unitsOut}
-use Rattle.protocol.specs.Delivery.{CarriesOver, CameFrom, BothCarry, Dipstick}
+use Rattle.protocol.specs.Delivery.{CarriesOver, CameFrom, BothCarry, Dipstick, Dipsticks}
 use Rattle.protocol.specs.declared.Shape.{Shape}
 use Rattle.protocol.specs.declared.Shape.the-variants as shape
 use Rattle.protocol.specs.declared.Match.{Match}
@@ -48,6 +48,7 @@ use Rattle.protocol.proofs.Fills.{told, carried-from}
 
 -- the damage of one byte, of what is sent and of what arrives
 one-arrives : (d : ℕ) (sent : ℕ → Sent) (heard : ℕ → ℕ) → Arrives d sent heard → (t : ℕ) (s : Sent) → sent t ≡ s → ArrivesOne s (heard (t + d))
+one-arrives d sent heard a t Silence e = Prim.tt
 one-arrives d sent heard a t (Alone b) e = a .alone t b e
 one-arrives d sent heard a t (Part place value) e = Prim.tt
 one-arrives d sent heard a t (Unit f u) e = a .units t f u e
@@ -189,6 +190,12 @@ module _ {d mo lo co : ℕ} {eo : List Entry} {ma la ca : ℕ} {ea : List Entry}
       carries-over (4 * d + 420) d s small atA atO ha ho ga go (subst (λ x. SendsFrom x s atA ha ga) y sends-a)
       (subst (λ y. ReadsFrom y s atO ho go) z reads-o) (p .toO)
 
+-- what is delivered is what was carried, and that was offered in its place or is fill
+dipstick : {d : ℕ} {s : Shape} {x : ℕ} {sender : Endpoint} {hs : ℕ → ℕ} {gs : ℕ → Drive} {receiver : Endpoint} {hr : ℕ → ℕ} {gr : ℕ → Drive}
+    → CarriesOver d s x sender hs gs receiver hr gr → Dipstick sender hs gs receiver hr gr
+dipstick {sender = sender} {hs} {gs} c t place =
+    subst (λ l. place < length l → CameFrom sender hs gs place (getD l place 0)) (sym (c .units t)) (carried-from sender hs gs _ place)
+
 module _ (d : ℕ) (go ga : ℕ → Drive) (ho ha : ℕ → ℕ) where
   carry-by : (bo ba : Book) → JoinedPair d (bookO (bo .mask) (bo .limit) (bo .n) (bo .entries)) (bookA (ba .mask) (ba .limit) (ba .n) (ba .entries)) go ga ho ha
       → eqb (highest (bo .mask) (ba .mask)) 0 ≡ false
@@ -209,6 +216,5 @@ module _ (d : ℕ) (go ga : ℕ → Drive) (ho ha : ℕ → ℕ) where
       by-roles d go ga ho ha (λ bo ba. (sharedVersion bo ba ≡ 0 → ⊥) → ProfileIn bo ba → BothCarry d bo ba go ga ho ha)
       (λ bo ba p n f. carry-by bo ba p (ne-eqb (highest (bo .mask) (ba .mask)) 0 n) f (matchIn (ba .entries) (paramsOf (entryOf bo 0)) (ba .n)) refl)
 
-  pub dipstick : (bo ba : Book) → BothCarry d bo ba go ga ho ha → Dipstick bo ba go ga ho ha
-  dipstick bo ba c t place =
-      subst (λ l. place < length l → CameFrom (started bo) ho go place (getD l place 0)) (sym (c .fromO .units t)) (carried-from (started bo) ho go _ place)
+  pub dipsticks : (bo ba : Book) → BothCarry d bo ba go ga ho ha → Dipsticks bo ba go ga ho ha
+  dipsticks bo ba c = record { atA = dipstick (c .fromO); atO = dipstick (c .fromA) }

@@ -26,8 +26,8 @@ module _ (d : ℕ) (bo ba : Book) (go ga : ℕ → Drive) (books : MayJoin d bo 
         books = books;
         allowedO = allowedO;
         allowedA = allowedA;
-        toO = to-o bo ba d (books .delay) go ga (books .bookA) allowedA;
-        toA = to-a bo ba d (books .delay) go ga (books .bookO) allowedO;
+        toO = to-o bo ba d (books .delay) go ga;
+        toA = to-a bo ba d (books .delay) go ga;
       }
 
   -- offered nothing, any two books that may be joined make a joined pair

@@ -1,6 +1,6 @@
 -- An end in the exchange delivers nothing, takes nothing and sends no unit. Assumes nothing.
 use mathlib.Core.Path.{_≡_, refl}
-use mathlib.Core.Bool.{false}
+use mathlib.Core.Bool.{false, _&&_}
 use mathlib.Core.List.{List, []}
 use Prim.Native.Nat.{ℕ, _%_}
 use native.Mathlib.Omega.{arith}
@@ -13,7 +13,8 @@ use Rattle.protocol.specs.Lengths.{parameterLead, parameterBytes}
 use Rattle.protocol.specs.Sent.{Sent, parameterSent}
 use Rattle.protocol.specs.Exchange.{Turn, sentAs, sends, chosen, acted, fateHeard, turnBy, turn, entryOf}
 use Rattle.protocol.specs.Opened.{writing, writesOpening, shapeOf, freshLine}
-use Rattle.protocol.specs.Slot.{Step, exchangeIn, stepBy, exchangeStep, stepAt, stepOf, outcomeAt, outcomeOf}
+use Rattle.protocol.specs.Ranges.{wellFormed}
+use Rattle.protocol.specs.Slot.{Step, exchangeIn, stepBy, exchangeStep, stepAt, slotStep, offerAllowed, outcomeAt, outcomeOf}
 use Rattle.protocol.specs.Carried.{fill}
 use Rattle.protocol.specs.declared.Shape.{Shape}
 use Rattle.protocol.specs.declared.Shape.the-variants as shape
@@ -82,5 +83,7 @@ phase-quiet e heard g (Exchanging slot version a s) q =
 phase-quiet e heard g (Open slot version i line) q = let z : _≡_ {A = ℕ} 0 1 = cc in absurd (omega arith)
 phase-quiet e heard g (Refused n slot) q = let z : _≡_ {A = ℕ} 0 1 = cc in absurd (omega arith)
 
-pub exchange-quiet : (e : Endpoint) (heard : ℕ) (g : Drive) → outcomeOf e ≡ outcome.Exchanging → Quiet (stepOf e heard g)
-exchange-quiet e heard g q = phase-quiet e heard g (e .phase) q
+pub exchange-quiet : (e : Endpoint) (heard : ℕ) (g : Drive) → outcomeOf e ≡ outcome.Exchanging → Quiet (slotStep e heard g)
+unfolding slotStep
+exchange-quiet e heard g q =
+    either-way Quiet (wellFormed e && offerAllowed e g (e .phase)) (phase-quiet e heard g (e .phase) q) (record { delivers = refl; takes = refl; sends = refl })

@@ -11,7 +11,7 @@ use Rattle.protocol.specs.Sent.{Sent}
 use Rattle.protocol.specs.Exchange.{Turn, firstExchange, turn}
 use Rattle.protocol.specs.Opened.{freshLine}
 use Rattle.protocol.specs.Ranges.{wellFormed}
-use Rattle.protocol.specs.Slot.{exchanging, concluded, started, clocked, opens, opensHearing, stepBy, exchangeStep, stepAt, stepOf, slotOf}
+use Rattle.protocol.specs.Slot.{exchanging, concluded, started, clocked, opens, opensHearing, Step, stepBy, exchangeStep, slotStep, slotOf}
 use Rattle.protocol.specs.Call.{endAt, sentAt}
 use Rattle.protocol.specs.declared.Exchange.{Exchange}
 use Rattle.protocol.specs.declared.Fate.{Fate}
@@ -19,7 +19,7 @@ use Rattle.protocol.specs.declared.Fate.the-variants.{Stays, OpensHearin
 use Rattle.protocol.specs.declared.Phase.the-variants.{Refused}
 use Rattle.protocol.specs.declared.Endpoint.{Endpoint}
 use Rattle.protocol.specs.declared.Drive.{Drive}
-use Rattle.protocol.proofs.SlotPasses.{exchange-passes}
+use Rattle.protocol.proofs.SlotPasses.{exchange-passes, exchange-steps}
 use Rattle.protocol.proofs.Segments.{Said, Says, Silent, Runs}
 use Rattle.protocol.proofs.Core.{Core, Talks, Over, Talking, talking, core, coreBy}
 
@@ -54,10 +54,16 @@ module _ (b : Book) (heard : ℕ → ℕ) (given : ℕ → Drive) where
         ap (λ u. slotOf u (heard t) (given t) .state) e
         ∙ exchange-passes (exchanging b t x) (heard t) (given t) (subst (λ u. wellFormed u ≡ true) e (kept t)) refl
 
+    steps-on : (t : ℕ) (x : Exchange) → end t ≡ exchanging b t x
+        → slotStep (end t) (heard t) (given t) ≡ stepBy b t (turn b x (kindOf (heard t))) (given t) (turn b x (kindOf (heard t)) .fate)
+    unfolding exchangeStep
+    steps-on t x e =
+        ap (λ u. slotStep u (heard t) (given t)) e
+        ∙ exchange-steps (exchanging b t x) (heard t) (given t) (subst (λ u. wellFormed u ≡ true) e (kept t)) refl
+
     sends-on : (t : ℕ) (x : Exchange) → end t ≡ exchanging b t x
         → sentAt (started b) heard given t ≡ stepBy b t (turn b x (kindOf (heard t))) (given t) (turn b x (kindOf (heard t)) .fate) .sent
-    unfolding stepAt exchangeStep
-    sends-on t x e = ap (λ u. stepOf u (heard t) (given t) .sent) e
+    sends-on t x e = ap (λ (s : Step). s .sent) (steps-on t x e)
 
     stays-on : (t : ℕ) → suc t < b .limit → (u : Turn) (f : Fate) (y : Exchange) → coreBy u f .to ≡ Talks y
         → stepBy b t u (given t) f .state ≡ exchanging b (suc t) y
@@ -124,8 +130,8 @@ module _ (b : Book) (heard : ℕ → ℕ) (given : ℕ → Drive) where
 
     -- in the slot in which it opens by a received byte, an end sends as an open end
     pub timed-hearing : (t : ℕ) → t < b .limit → Talking (coreAt t) → (i : ℕ) (y : Exchange) → coreAt (suc t) ≡ Over (OpensHearing i) y
-        → stepOf (end t) (heard t) (given t) ≡ opensHearing b t y i (given t)
-    unfolding coreAt stepAt exchangeStep
+        → slotStep (end t) (heard t) (given t) ≡ opensHearing b t y i (given t)
+    unfolding coreAt
     timed-hearing t l (talking x q) i y e =
-        ap (λ u. stepOf u (heard t) (given t)) (timed t l x q)
+        steps-on t x (timed t l x q)
         ∙ hears-on t (turn b x (kindOf (heard t))) (turn b x (kindOf (heard t)) .fate) i y (sym (ap (λ u. core b u (kindOf (heard t)) .to) q) ∙ e)

@@ -6,7 +6,7 @@ use Rattle.book.specs.declared.Book.{Book}
 use Rattle.protocol.specs.Sent.{Sent}
 use Rattle.protocol.specs.Exchange.{entryOf}
 use Rattle.protocol.specs.Opened.{shapeOf, hasUnit}
-use Rattle.protocol.specs.Slot.{slotOf, stepOf, offerAllowed, outcomeOf}
+use Rattle.protocol.specs.Slot.{slotOf, slotStep, offerAllowed, outcomeOf}
 use Rattle.protocol.specs.declared.Endpoint.{Endpoint}
 use Rattle.protocol.specs.declared.Offer.the-variants as offer
 use Rattle.protocol.specs.declared.Drive.{Drive}
@@ -18,15 +18,15 @@ unfoldable pub endAt : Endpoint → (ℕ → ℕ) → (ℕ → Drive) → ℕ �
 endAt e heard given zero = e
 endAt e heard given (suc t) = slotOf (endAt e heard given t) (heard t) (given t) .state
 
--- what slot t sends, delivers and takes
+-- what slot t sends, delivers and takes: nothing where it is refused
 abbrev pub sentAt : Endpoint → (ℕ → ℕ) → (ℕ → Drive) → ℕ → Sent
-sentAt e heard given t = stepOf (endAt e heard given t) (heard t) (given t) .sent
+sentAt e heard given t = slotStep (endAt e heard given t) (heard t) (given t) .sent
 
 abbrev pub deliveredAt : Endpoint → (ℕ → ℕ) → (ℕ → Drive) → ℕ → Delivered
-deliveredAt e heard given t = stepOf (endAt e heard given t) (heard t) (given t) .delivered
+deliveredAt e heard given t = slotStep (endAt e heard given t) (heard t) (given t) .delivered
 
 abbrev pub takenAt : Endpoint → (ℕ → ℕ) → (ℕ → Drive) → ℕ → Bool
-takenAt e heard given t = stepOf (endAt e heard given t) (heard t) (given t) .taken
+takenAt e heard given t = slotStep (endAt e heard given t) (heard t) (given t) .taken
 
 -- where the end stands before slot t
 abbrev pub standsAt : Endpoint → (ℕ → ℕ) → (ℕ → Drive) → ℕ → Outcome

@@ -5,7 +5,7 @@ use Prim.Native.Nat.{ℕ, zero, suc}
 use Rattle.channel.specs.declared.kind.Kind.{Kind}
 use Rattle.channel.specs.declared.kind.Kind.the-variants.{Sgvi, Sgp, Dl, Dh, Sd, Other}
 use Rattle.channel.specs.Kinds.{kindOf}
-use Rattle.protocol.specs.Sent.{Sent, Alone, Part, Unit}
+use Rattle.protocol.specs.Sent.{Sent, Silence, Alone, Part, Unit}
 use Rattle.protocol.specs.Opened.{agreedSignals, idleSignals}
 use Rattle.protocol.specs.Call.{sentAt, deliveredAt, takenAt}
 use Rattle.protocol.specs.declared.Shape.{Shape}
@@ -24,6 +24,7 @@ offered (offer.Unit u) = u ∷ []
 
 -- a unit that goes though none was taken
 abbrev pub fill : Sent → List ℕ
+fill Silence = []
 fill (Alone b) = []
 fill (Part place value) = []
 fill (Unit f u) = u ∷ []
@@ -67,6 +68,7 @@ shownKind (Dh x) h = h
 shownKind Other h = h
 
 abbrev pub shownNext : Sent → Shown → Shown
+shownNext Silence h = h
 shownNext (Alone b) h = shownKind (kindOf b) h
 shownNext (Part place value) h = h
 shownNext (Unit f u) h = h

@@ -15,9 +15,9 @@ use Rattle.protocol.specs.Sent.{byteSent, parameterSent}
 use Rattle.protocol.specs.Exchange.{identifier, firstExchange, matchIn, acted, fateHeard, chosenOriginating, chosenAnswering, sentAs, advanced, fateSent, sends, turn}
 use Rattle.protocol.specs.Opened.{shapeOf, hasUnit, freshLine, agreedSignals, readsWord, readsSix, readsStream, reading, writesOpening, writesData, writing}
 use Rattle.protocol.specs.Ranges.{awaitedIn, nibblesIn, valuesIn, answeringIn, originatingIn, isVersion, versionIn, outboundIn, inboundIn, refusedIn, phaseIn, wellFormed}
-use Rattle.protocol.specs.Slot.{started, clocked, exchangeStep, openStep, stepAt, offerAllowed, outcomeAt, slotOf}
+use Rattle.protocol.specs.Slot.{started, clocked, exchangeStep, openStep, stepAt, offerAllowed, outcomeAt, slotStep, slotOf}
 use Rattle.protocol.specs.Joined.{joined, joinedSlot}
 
 unfoldable pub computing : ℕ
-unfolding entriesOf keptEntries entriesBytes bookBytes startNo valuesNo lengthNo seenIn entryNo eachNo entriesNo bookNo allNone isPadded bookOk laid signalling sdByte dlByte dhByte kindNumber nibbleIn leadsIn kindFrom kindOf howMany fits unitByte unitIn encoded decoded sameBothWays wordFits encodedWord wordOf highestUpTo highest shared majorities voted val digits allBelow identifierRun parameterRun parameterLead ofRun valueOf inRun inGroup hearAt byteSent parameterSent identifier firstExchange matchIn acted fateHeard chosenOriginating chosenAnswering sentAs advanced fateSent sends turn shapeOf hasUnit freshLine agreedSignals readsWord readsSix readsStream reading writesOpening writesData writing awaitedIn nibblesIn valuesIn answeringIn originatingIn isVersion versionIn outboundIn inboundIn refusedIn phaseIn wellFormed started clocked exchangeStep openStep stepAt offerAllowed outcomeAt slotOf joined joinedSlot
+unfolding entriesOf keptEntries entriesBytes bookBytes startNo valuesNo lengthNo seenIn entryNo eachNo entriesNo bookNo allNone isPadded bookOk laid signalling sdByte dlByte dhByte kindNumber nibbleIn leadsIn kindFrom kindOf howMany fits unitByte unitIn encoded decoded sameBothWays wordFits encodedWord wordOf highestUpTo highest shared majorities voted val digits allBelow identifierRun parameterRun parameterLead ofRun valueOf inRun inGroup hearAt byteSent parameterSent identifier firstExchange matchIn acted fateHeard chosenOriginating chosenAnswering sentAs advanced fateSent sends turn shapeOf hasUnit freshLine agreedSignals readsWord readsSix readsStream reading writesOpening writesData writing awaitedIn nibblesIn valuesIn answeringIn originatingIn isVersion versionIn outboundIn inboundIn refusedIn phaseIn wellFormed started clocked exchangeStep openStep stepAt offerAllowed outcomeAt slotStep slotOf joined joinedSlot
 computing = 0

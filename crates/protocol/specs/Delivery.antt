@@ -69,8 +69,13 @@ pub record BothCarry (d : ℕ) (bo ba : Book) (go ga : ℕ → Drive) (ho ha : �
   pub fromO : CarriesOver d (shapeOf (entryOf bo 0) (sharedVersion bo ba)) (5 * d + 419) (started bo) ho go (started ba) ha ga
   pub fromA : CarriesOver d (shapeOf (entryOf bo 0) (sharedVersion bo ba)) (4 * d + 420) (started ba) ha ga (started bo) ho go
 
--- The dipstick: whatever the answerer has delivered up to a slot, each value in its place, the originator was offered and took with so many
--- units carried before it, or it is fill.
-abbrev pub Dipstick : Book → Book → (ℕ → Drive) → (ℕ → Drive) → (ℕ → ℕ) → (ℕ → ℕ) → Type 0
-Dipstick bo ba go ga ho ha =
-    (t place : ℕ) → place < length (deliveredBefore (started ba) ha ga t) → CameFrom (started bo) ho go place (getD (deliveredBefore (started ba) ha ga t) place 0)
+-- The dipstick: whatever an end has delivered up to a slot, each value in its place, the other was offered and took with so many units
+-- carried before it, or it is fill.
+abbrev pub Dipstick : Endpoint → (ℕ → ℕ) → (ℕ → Drive) → Endpoint → (ℕ → ℕ) → (ℕ → Drive) → Type 0
+Dipstick sender hs gs receiver hr gr =
+    (t place : ℕ) → place < length (deliveredBefore receiver hr gr t) → CameFrom sender hs gs place (getD (deliveredBefore receiver hr gr t) place 0)
+
+-- at either end
+pub record Dipsticks (bo ba : Book) (go ga : ℕ → Drive) (ho ha : ℕ → ℕ) : Type 0 where
+  pub atA : Dipstick (started bo) ho go (started ba) ha ga
+  pub atO : Dipstick (started ba) ha ga (started bo) ho go

@@ -5,6 +5,7 @@ pub mod Exchange
 pub mod Opened
 pub mod Ranges
 pub mod Slot
+pub mod Answers
 pub mod Call
 pub mod Concluding
 pub mod Votes

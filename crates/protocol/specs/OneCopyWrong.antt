@@ -10,7 +10,7 @@ use Rattle.channel.specs.Bytes.{laid, B}
 use Rattle.channel.specs.Forms.{unitByte}
 use Rattle.channel.specs.declared.unit.Form.{Form}
 use Rattle.channel.specs.declared.unit.Form.the-variants.{Six, SevenV1, SevenV2, Eight}
-use Rattle.protocol.specs.Sent.{Sent, Alone, Part, Unit, groupByte}
+use Rattle.protocol.specs.Sent.{Sent, Silence, Alone, Part, Unit, groupByte, byteSent}
 use Rattle.protocol.specs.Slot.{started}
 use Rattle.protocol.specs.Call.{sentAt}
 use Rattle.protocol.specs.Pair.{JoinedPair}
@@ -43,12 +43,14 @@ partDamaged place b = cond (inSecondCopy place) (nibbleInverted b) (b8Inverted b
 
 -- the byte that arrives for what is sent
 unfoldable pub damaged : Sent → ℕ
+damaged Silence = b8Inverted (byteSent Silence)
 damaged (Alone b) = b8Inverted b
 damaged (Part place value) = partDamaged place (groupByte place value)
 damaged (Unit f u) = unitDamaged f (unitByte f u)
 
 -- the byte of a form 8 unit, in which B8 may not change
 abbrev pub isEight : Sent → Bool
+isEight Silence = false
 isEight (Alone b) = false
 isEight (Part place value) = false
 isEight (Unit Six u) = false

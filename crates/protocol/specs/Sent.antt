@@ -5,12 +5,14 @@ use mathlib.Core.List.{List}
 use lib.Dec.{eqb, ltb}
 use lib.ListN.{getD}
 use Rattle.book.specs.declared.Book.{Book}
-use Rattle.channel.specs.Bytes.{sgp, dlByte, dhByte}
+use Rattle.channel.specs.Bytes.{sgp, sgidle, dlByte, dhByte}
 use Rattle.channel.specs.Forms.{unitByte}
 use Rattle.channel.specs.declared.unit.Form.{Form}
 use Rattle.protocol.specs.Lengths.{parameterLead, parameterBytes}
 
 pub data Sent : Type 0 where
+  -- nothing: the slot is refused
+  Silence : Sent
   -- a byte by itself
   Alone : ℕ → Sent
   -- one of the six bytes of the group that carries a value
@@ -22,7 +24,9 @@ pub data Sent : Type 0 where
 abbrev pub groupByte : ℕ → ℕ → ℕ
 groupByte place value = cond (eqb (place % 2) 0) (dlByte value) (dhByte value)
 
+-- where nothing is sent the line is idle
 unfoldable pub byteSent : Sent → ℕ
+byteSent Silence = sgidle
 byteSent (Alone b) = b
 byteSent (Part place value) = groupByte place value
 byteSent (Unit f u) = unitByte f u

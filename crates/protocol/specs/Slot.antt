@@ -1,5 +1,5 @@
 -- One slot of one end. Assumes nothing.
-use mathlib.Core.Bool.{Bool, true, false, cond}
+use mathlib.Core.Bool.{Bool, true, false, cond, _&&_}
 use Prim.Native.Nat.{ℕ, _+_}
 use lib.Dec.{ltb}
 use Rattle.book.specs.declared.Book.{Book}
@@ -7,7 +7,7 @@ use Rattle.book.specs.declared.BookRead.{BookRead}
 use Rattle.channel.specs.Bytes.{byte, sdidle}
 use Rattle.channel.specs.Kinds.{kindOf}
 use Rattle.protocol.specs.Collecting.{noNibbles}
-use Rattle.protocol.specs.Sent.{Sent, Alone, byteSent}
+use Rattle.protocol.specs.Sent.{Sent, Silence, Alone, byteSent}
 use Rattle.protocol.specs.Exchange.{Turn, turn, firstExchange, entryOf}
 use Rattle.protocol.specs.Opened.{shapeOf, hasUnit, freshLine, writing, reading}
 use Rattle.protocol.specs.Ranges.{wellFormed}
@@ -147,6 +147,10 @@ passes s =
 -- 12 and 13 give back the state as it came
 abbrev pub refuses : Endpoint → ℕ → SlotAnswer
 refuses e number = record { state = e; reply = reply.Refused number }
+
+-- what a slot brings: one that is refused leaves the state as it came, and in it nothing is sent, delivered or taken
+unfoldable pub slotStep : Endpoint → ℕ → Drive → Step
+slotStep e heard g = cond (wellFormed e && offerAllowed e g (e .phase)) (stepOf e heard g) (step e Silence)
 
 -- 13 first, then 12, then the slot
 unfoldable pub slotOf : Endpoint → ℕ → Drive → SlotAnswer

@@ -1,4 +1,5 @@
 mod Slots
+pub mod SaysTrue
 mod Filling
 pub mod LineLength
 mod Telling

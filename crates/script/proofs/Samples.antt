@@ -25,14 +25,6 @@ signals = record { leads = record { s0 = false; s1 = false; s2 = true; s3 = fals
 abbrev opened : Outcome
 opened = Open 2 (record { p0 = 0x01; p1 = 0xA2; p2 = 3; p3 = 4; p4 = 5; form = 0; w = 8 }) 424 signals
 
--- in the exchange; a unit delivered and one taken; a slot refused; an end refused
-pub lines : (lineOf 0 Exchanging (reply.Passed (byte 0x57) delivered.Nothing false Exchanging) ≡ ascii "0 57 - - ----- exchange -\n")
-    × (lineOf 500 opened (reply.Passed (byte 0x0D) (delivered.Unit 165) true opened) ≡ ascii "500 0D 165 t 01001 open 2/01A2030405/424\n")
-    × (lineOf 501 opened (reply.Refused 12) ≡ ascii "501 -- - - 01001 open 2/01A2030405/424 by 12\n")
-    × (lineOf 44 (Refused 21 43) (reply.Passed (byte 0x43) delivered.Nothing false (Refused 21 43)) ≡ ascii "44 43 - - ----- refused 21/43\n")
-unfolding lineOf replyFields outcomeFields sentField deliveredField takenField signalDigits signalsField standsField parametersOf detailField refusalNote decimalOf hexOf
-lines = (refl, refl, refl, refl)
-
 -- an answering unit's book of 17 bytes, with this mask
 abbrev book : ℕ → List ℕ
 book mask = 0x54 ∷ 0x4C ∷ 0x42 ∷ 0 ∷ 1 ∷ 1 ∷ mask ∷ 1 ∷ 0xF4 ∷ 1 ∷ 1 ∷ 2 ∷ 3 ∷ 4 ∷ 5 ∷ 7 ∷ 0 ∷ []
@@ -40,12 +32,32 @@ book mask = 0x54 ∷ 0x4C ∷ 0x42 ∷ 0 ∷ 1 ∷ 1 ∷ mask ∷ 1 ∷ 0xF4 ∷
 abbrev script : ℕ → List ℕ → List ℕ
 script mask slots = 0 ∷ 17 ∷ (book mask ++ slots)
 
--- no slot; two slots; a refused book; bit 7 on and a slot that is cut, each tested before the book
-pub scripts : (scriptSays (script 3 []) ≡ [])
-    × (scriptSays (script 3 (0x57 ∷ 0x04 ∷ 0 ∷ 0x57 ∷ 0x24 ∷ 9 ∷ [])) ≡ ascii "0 57 - - ----- exchange -\n1 57 - - ----- exchange -\n")
-    × (scriptSays (script 4 (0x57 ∷ 0x04 ∷ 0 ∷ [])) ≡ ascii "book refused by number 5\n")
-    × (scriptSays (script 4 (0x57 ∷ 0x80 ∷ 0 ∷ [])) ≡ ascii "input refused\n")
-    × (scriptSays (script 4 (0x57 ∷ 0x04 ∷ [])) ≡ ascii "input refused\n")
-    × (scriptSays [] ≡ ascii "input refused\n")
+pub record ScriptFigures : Type 0 where
+  -- lines: in the exchange; a unit delivered and one taken; a slot refused; an end refused
+  pub exchange : lineOf 0 Exchanging (reply.Passed (byte 0x57) delivered.Nothing false Exchanging) ≡ ascii "0 57 - - ----- exchange -\n"
+  pub open-end : lineOf 500 opened (reply.Passed (byte 0x0D) (delivered.Unit 165) true opened) ≡ ascii "500 0D 165 t 01001 open 2/01A2030405/424\n"
+  pub refused-slot : lineOf 501 opened (reply.Refused 12) ≡ ascii "501 -- - - 01001 open 2/01A2030405/424 by 12\n"
+  pub refused-end : lineOf 44 (Refused 21 43) (reply.Passed (byte 0x43) delivered.Nothing false (Refused 21 43)) ≡ ascii "44 43 - - ----- refused 21/43\n"
+  -- scripts: no slot; two slots; a refused book; bit 7 on and a slot that is cut, each tested before the book
+  pub no-slot : scriptSays (script 3 []) ≡ []
+  pub two-slots : scriptSays (script 3 (0x57 ∷ 0x04 ∷ 0 ∷ 0x57 ∷ 0x24 ∷ 9 ∷ [])) ≡ ascii "0 57 - - ----- exchange -\n1 57 - - ----- exchange -\n"
+  pub bad-book : scriptSays (script 4 (0x57 ∷ 0x04 ∷ 0 ∷ [])) ≡ ascii "book refused by number 5\n"
+  pub stray-bit : scriptSays (script 4 (0x57 ∷ 0x80 ∷ 0 ∷ [])) ≡ ascii "input refused\n"
+  pub cut-slot : scriptSays (script 4 (0x57 ∷ 0x04 ∷ [])) ≡ ascii "input refused\n"
+  pub no-input : scriptSays [] ≡ ascii "input refused\n"
+
+pub script-figures : ScriptFigures
 unfolding computing readBook startOf scriptSays scriptFault slotsFault linesFrom driveOf bookRefused lineOf replyFields outcomeFields sentField deliveredField takenField signalDigits signalsField standsField parametersOf detailField refusalNote decimalOf hexOf
-scripts = (refl, refl, refl, refl, refl, refl)
+script-figures =
+    record {
+      exchange = refl;
+      open-end = refl;
+      refused-slot = refl;
+      refused-end = refl;
+      no-slot = refl;
+      two-slots = refl;
+      bad-book = refl;
+      stray-bit = refl;
+      cut-slot = refl;
+      no-input = refl;
+    }

@@ -1,25 +1,57 @@
--- Numbers as they are written: at figures, and read back. Assumes nothing.
+-- Numbers and texts as they are written: at figures, and numbers read back. Assumes nothing.
 use mathlib.Core.Path.{_≡_, refl, ap, _∙_}
 use mathlib.Core.Bool.{Bool, true, false}
-use mathlib.Core.List.{List, [], _∷_, _++_, append-assoc}
+use mathlib.Core.List.{List, [], _∷_, _++_, map, append-assoc}
 use Prim.Native.Nat.{ℕ, _+_, _*_, _-_, _/_, _%_, _<_}
 use native.Mathlib.Nat.{div-div-eq-div-mul, div-eq-of-lt}
 use native.Mathlib.Omega.{arith}
 use lib.Dec.{ltb}
+use lib.ListN.{replicate}
 use borrow.Author.Tests.{ltb-true}
 use Rattle.text.specs.Ascii.{ascii}
-use Rattle.text.specs.Numerals.{digit, placeOf, decimalOf, hexOf}
+use Rattle.text.specs.Numerals.{digit, placeOf, decimalOf, hexOf, parametersOf}
+use Rattle.text.specs.Text.{text, pushed, appended}
 
-pub figures : (decimalOf 0 ≡ ascii "0")
-    × (decimalOf 7 ≡ ascii "7")
-    × (decimalOf 10 ≡ ascii "10")
-    × (decimalOf 424 ≡ ascii "424")
-    × (decimalOf 65535 ≡ ascii "65535")
-    × (hexOf 0x00 ≡ ascii "00")
-    × (hexOf 0xA5 ≡ ascii "A5")
-    × (hexOf 0xFF ≡ ascii "FF")
-unfolding decimalOf hexOf
-figures = (refl, refl, refl, refl, refl, refl, refl, refl)
+-- each number, word or text beside its characters, and these by their codes
+pub record Figures : Type 0 where
+  pub characters : ascii "O A0z\n" ≡ 79 ∷ 32 ∷ 65 ∷ 48 ∷ 122 ∷ 10 ∷ []
+  -- without leading zeros; each place from the first number that has it
+  pub decimal : map decimalOf (0 ∷ 7 ∷ 9 ∷ 10 ∷ 99 ∷ 100 ∷ 424 ∷ 999 ∷ 1000 ∷ 9999 ∷ 10000 ∷ 65535 ∷ [])
+      ≡ ascii "0" ∷ ascii "7" ∷ ascii "9" ∷ ascii "10" ∷ ascii "99" ∷ ascii "100" ∷ ascii "424" ∷ ascii "999" ∷ ascii "1000"
+      ∷ ascii "9999" ∷ ascii "10000" ∷ ascii "65535" ∷ []
+  pub zeros-within : map decimalOf (101 ∷ 1001 ∷ 20030 ∷ []) ≡ ascii "101" ∷ ascii "1001" ∷ ascii "20030" ∷ []
+  -- two upper-case digits
+  pub hex : map hexOf (0x00 ∷ 0x09 ∷ 0x0A ∷ 0x0F ∷ 0x10 ∷ 0x90 ∷ 0xA5 ∷ 0xFF ∷ [])
+      ≡ ascii "00" ∷ ascii "09" ∷ ascii "0A" ∷ ascii "0F" ∷ ascii "10" ∷ ascii "90" ∷ ascii "A5" ∷ ascii "FF" ∷ []
+  -- five parameters, in order
+  pub parameters : parametersOf (record { p0 = 0x01; p1 = 0x23; p2 = 0x45; p3 = 0xAB; p4 = 0xEF; form = 7; w = 8 }) ≡ ascii "012345ABEF"
+  -- a text's characters, and zeros past them
+  pub empty : text [] ≡ record { bytes = replicate 64 0; length = 0 }
+  pub short : text (79 ∷ 75 ∷ []) ≡ record { bytes = 79 ∷ 75 ∷ replicate 62 0; length = 2 }
+  -- 64 of them at the most
+  pub full : text (replicate 64 65) ≡ record { bytes = replicate 64 65; length = 64 }
+  pub cut : text (replicate 64 65 ++ (66 ∷ [])) ≡ record { bytes = replicate 64 65; length = 64 }
+  pub appends : appended (text (79 ∷ [])) (75 ∷ 33 ∷ []) ≡ record { bytes = 79 ∷ 75 ∷ 33 ∷ replicate 61 0; length = 3 }
+  pub last-place : pushed (text (replicate 63 65)) 66 ≡ record { bytes = replicate 63 65 ++ (66 ∷ []); length = 64 }
+  pub no-place : pushed (text (replicate 64 65)) 66 ≡ record { bytes = replicate 64 65; length = 64 }
+
+pub figures : Figures
+unfolding decimalOf hexOf parametersOf text pushed appended
+figures =
+    record {
+      characters = refl;
+      decimal = refl;
+      zeros-within = refl;
+      hex = refl;
+      parameters = refl;
+      empty = refl;
+      short = refl;
+      full = refl;
+      cut = refl;
+      appends = refl;
+      last-place = refl;
+      no-place = refl;
+    }
 
 -- the number that decimal digits say, after those that say v
 abbrev pub readFrom : ℕ → List ℕ → ℕ

@@ -65,8 +65,8 @@ loop-again c =
     let line = put .before .before in
     let slot = line .before .before .before in
     let test = slot .before .before .before .before .before in
-    next (test .before .loop .inv) (test .loop-test .taken) (slot .before .drive .ensures) (slot .slot .ensures)
-    (line .before .outcome .ensures) (line .line .ensures) (put .put .ensures .0) (put .put .ensures .1)
+    next (test .before .loop .inv) (test .loop-test .taken) (slot .before .drive .ensures) (slot .slot .ensures .0)
+    (line .before .outcome .ensures .0) (line .line .ensures) (put .put .ensures .0) (put .put .ensures .1)
 
 same-length : tie.Need-same-length Inv-loop μ-loop
 same-length c = search needs

@@ -71,7 +71,7 @@ returns-2 c =
     let book = begun .before .before in
     let test = book .before in
     said-as (test .before .before .before .before .args .out .now)
-    (started _ (test .before .fault .ensures) (test .if1 .left) _ (book .slots-at .ensures) (begun .start .ensures)
+    (started _ (test .before .fault .ensures) (test .if1 .left) _ (book .slots-at .ensures) (begun .start .ensures .0)
     (said .before .before .enum-told .given .1))
     (said .lines .ensures .0) (said .lines .ensures .1)
 
@@ -86,7 +86,7 @@ returns-3 c =
     let book = begun .before .before in
     let test = book .before in
     said-alone _ (test .before .before .before .before .args .out .now)
-    (started _ (test .before .fault .ensures) (test .if1 .left) _ (book .slots-at .ensures) (begun .start .ensures)
+    (started _ (test .before .fault .ensures) (test .if1 .left) _ (book .slots-at .ensures) (begun .start .ensures .0)
     (told .before .before .verdict .given .1))
     (refusal-fits _) (told .book-refused .ensures) (said .put2 .ensures .0) (said .put2 .ensures .1)
 

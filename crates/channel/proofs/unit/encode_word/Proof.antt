@@ -1,5 +1,6 @@
 -- `channel::unit::encode_word` meets its contract. Assumes nothing.
 use Rattle.channel.specs.Forms.{encodedWord}
+use Rattle.channel.proofs.Said.{word-said}
 use mathlib.Core.Path.{sym, _∙_}
 use borrow.Author.Needs.{needs}
 use Rattle.channel.proofs.unit.encode_word.Statement.{statement}
@@ -16,11 +17,11 @@ dh-requires c κs = search needs
 
 returns : tie.Need-returns
 unfolding encodedWord
-returns c = simp (sym (c .before .before .before .word-fits .ensures) ∙ c .before .before .if1 .taken, c .before .dl .ensures, c .dh .ensures)
+returns c = word-said _ _ (simp (sym (c .before .before .before .word-fits .ensures) ∙ c .before .before .if1 .taken, c .before .dl .ensures, c .dh .ensures))
 
 returns-2 : tie.Need-returns-2
 unfolding encodedWord
-returns-2 c = simp (sym (c .before .word-fits .ensures) ∙ c .if1 .left)
+returns-2 c = word-said _ _ (simp (sym (c .before .word-fits .ensures) ∙ c .if1 .left))
 
 pub encode-word-spec : {M : Type 1} → statement M
 encode-word-spec =

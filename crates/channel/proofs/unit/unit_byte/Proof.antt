@@ -1,7 +1,7 @@
 -- `channel::unit::unit_byte` meets its contract. Assumes nothing.
-use Rattle.channel.specs.Bytes.{byte}
-use mathlib.Core.Path.{ap}
-use Rattle.channel.proofs.Units.{byte-six, byte-seven-v1, byte-seven-v2}
+use native.Mathlib.Omega.{arith}
+use Rattle.channel.proofs.Built.{same-byte}
+use Rattle.channel.proofs.Units.{byte-six}
 use borrow.Author.Needs.{needs}
 use Rattle.channel.proofs.unit.unit_byte.Statement.{statement}
 use Rattle.channel.proofs.unit.unit_byte.Tie as tie
@@ -18,38 +18,32 @@ add-t6 c = search needs
 enum-told-2 : tie.Need-enum-told-2
 enum-told-2 c = search needs
 
-mul-t8 : tie.Need-mul-t8
-mul-t8 c = search needs
-
-add-t9 : tie.Need-add-t9
-add-t9 c = search needs
+seven-requires : tie.Need-seven-requires
+seven-requires c κs = search needs
 
 enum-told-3 : tie.Need-enum-told-3
 enum-told-3 c = search needs
 
-add-reversed : tie.Need-add-reversed
-add-reversed c = search needs
-
-reversed-requires : tie.Need-reversed-requires
-reversed-requires c κs = search needs
+seven-requires-2 : tie.Need-seven-requires-2
+seven-requires-2 c κs = search needs
 
 enum-told-4 : tie.Need-enum-told-4
 enum-told-4 c = search needs
 
-reversed-requires-2 : tie.Need-reversed-requires-2
-reversed-requires-2 c κs = search needs
+reversed-requires : tie.Need-reversed-requires
+reversed-requires c κs = search needs
 
 returns : tie.Need-returns
-returns c = rw (c .enum-told .given .1) (ap byte (byte-six _ (search needs)))
+returns c = rw (c .enum-told .given .1) (same-byte (omega (arith, byte-six (c .before .before .args .unit) (search needs))))
 
 returns-2 : tie.Need-returns-2
-returns-2 c = rw (c .enum-told2 .given .1) (ap byte (byte-seven-v1 _ (search needs)))
+returns-2 c = rw (c .before .enum-told2 .given .1) (same-byte (c .seven .ensures))
 
 returns-3 : tie.Need-returns-3
-returns-3 c = rw (c .before .enum-told3 .given .1, c .reversed .ensures) (ap byte (byte-seven-v2 _ (search needs)))
+returns-3 c = rw (c .before .enum-told3 .given .1) (same-byte (c .seven2 .ensures))
 
 returns-4 : tie.Need-returns-4
-returns-4 c = rw (c .before .enum-told4 .given .1) (ap byte (c .reversed2 .ensures))
+returns-4 c = rw (c .before .enum-told4 .given .1) (same-byte (c .reversed .ensures))
 
 pub unit-byte-spec : {M : Type 1} → statement M
 unit-byte-spec =
@@ -59,13 +53,11 @@ unit-byte-spec =
     mul-t5
     add-t6
     enum-told-2
-    mul-t8
-    add-t9
+    seven-requires
     enum-told-3
-    add-reversed
-    reversed-requires
+    seven-requires-2
     enum-told-4
-    reversed-requires-2
+    reversed-requires
     returns
     returns-2
     returns-3

@@ -1,6 +1,6 @@
 -- `endpoint::slot::clocked` meets its contract. Assumes nothing.
-use borrow.Author.Tests.{lt-ltb, le-ltb}
-use Rattle.protocol.specs.Slot.{clocked}
+use native.Mathlib.Omega.{arith}
+use Rattle.endpoint.proofs.Clock.{clock-runs, clock-ends}
 use borrow.Author.Needs.{needs}
 use Rattle.endpoint.proofs.slot.clocked.Statement.{statement}
 use Rattle.endpoint.proofs.slot.clocked.Tie as tie
@@ -18,15 +18,13 @@ exchanging-requires : tie.Need-exchanging-requires
 exchanging-requires c κs = search needs
 
 returns : tie.Need-returns
-unfolding clocked
-returns c = simp (c .exchanging .ensures, lt-ltb _ _ (c .before .if1 .taken))
+returns c = clock-runs (c .before .before .before .args .b) (c .before .before .before .args .slot) (c .before .before .before .args .x) (c .exchanging .ensures) (omega (arith, c .before .if1 .taken))
 
 concluded-requires : tie.Need-concluded-requires
 concluded-requires c κs = search needs
 
 returns-2 : tie.Need-returns-2
-unfolding clocked
-returns-2 c = simp (c .concluded .ensures, le-ltb _ _ (c .before .if1 .left))
+returns-2 c = clock-ends (c .before .before .before .args .b) (c .before .before .before .args .slot) (c .before .before .before .args .x) (c .concluded .ensures) (omega (arith, c .before .if1 .left))
 
 pub clocked-spec : {M : Type 1} → statement M
 clocked-spec =

@@ -47,16 +47,16 @@ quiet-requires-3 : tie.Need-quiet-requires-3
 quiet-requires-3 c κs = search needs
 
 returns : tie.Need-returns
-returns c = step-stays _ _ _ _ _ (c .before .before .before .before .before .before .before .kind .ensures) (c .before .before .before .before .before .before .turn .ensures) (c .before .before .enum-told .given .1) (c .before .clocked .ensures) (c .quiet .ensures)
+returns c = step-stays _ _ _ _ _ (c .before .before .before .before .before .before .before .kind .ensures .0) (c .before .before .before .before .before .before .turn .ensures) (c .before .before .enum-told .given .1) (c .before .clocked .ensures) (c .quiet .ensures)
 
 returns-2 : tie.Need-returns-2
-returns-2 c = step-opens-hearing _ _ _ _ _ (c .before .before .before .before .before .before .before .kind .ensures) (c .before .before .before .before .before .before .turn .ensures) (c .before .before .fate .given .1) (c .opens-hearing .ensures)
+returns-2 c = step-opens-hearing _ _ _ _ _ (c .before .before .before .before .before .before .before .kind .ensures .0) (c .before .before .before .before .before .before .turn .ensures) (c .before .before .fate .given .1) (c .opens-hearing .ensures)
 
 returns-3 : tie.Need-returns-3
-returns-3 c = step-opens-sending _ _ _ _ _ (c .before .before .before .before .before .before .before .before .before .kind .ensures) (c .before .before .before .before .before .before .before .before .turn .ensures) (c .before .before .before .before .fate2 .given .1) (c .before .before .fresh-line .ensures) (c .before .opens .ensures) (c .quiet2 .ensures)
+returns-3 c = step-opens-sending _ _ _ _ _ (c .before .before .before .before .before .before .before .before .before .kind .ensures .0) (c .before .before .before .before .before .before .before .before .turn .ensures) (c .before .before .before .before .fate2 .given .1) (c .before .before .fresh-line .ensures) (c .before .opens .ensures) (c .quiet2 .ensures)
 
 returns-4 : tie.Need-returns-4
-returns-4 c = step-refuses _ _ _ _ _ (c .before .before .before .before .before .before .before .before .kind .ensures) (c .before .before .before .before .before .before .before .turn .ensures) (c .before .before .before .fate3 .given .1) (c .before .concluded .ensures) (c .quiet3 .ensures)
+returns-4 c = step-refuses _ _ _ _ _ (c .before .before .before .before .before .before .before .before .kind .ensures .0) (c .before .before .before .before .before .before .before .turn .ensures) (c .before .before .before .fate3 .given .1) (c .before .concluded .ensures) (c .quiet3 .ensures)
 
 pub exchange-step-spec : {M : Type 1} → statement M
 exchange-step-spec =

@@ -21,7 +21,7 @@ open-at-requires c κs = search needs
 
 returns : tie.Need-returns
 unfolding openStep
-returns c = simp (c .before .open-at .ensures, c .before .before .before .before .writing .ensures, c .before .before .before .before .before .reading .ensures, c .before .before .before .before .before .before .shape-of .ensures, c .before .before .before .before .before .before .before .entry-of .ensures)
+returns c = simp (c .before .open-at .ensures, c .before .before .before .before .writing .ensures, c .before .before .before .before .before .reading .ensures .0, c .before .before .before .before .before .before .shape-of .ensures, c .before .before .before .before .before .before .before .entry-of .ensures)
 
 pub open-step-spec : {M : Type 1} → statement M
 open-step-spec =

@@ -7,7 +7,7 @@ outcome-requires : tie.Need-outcome-requires
 outcome-requires c κs = search needs
 
 returns : tie.Need-returns
-returns c = simp (c .outcome .ensures)
+returns c = simp (c .outcome .ensures .0)
 
 pub passed-spec : {M : Type 1} → statement M
 passed-spec = tie.close (tie.spec outcome-requires returns)

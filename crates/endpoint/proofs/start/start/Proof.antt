@@ -12,7 +12,8 @@ started-requires c κs = search needs
 
 returns : tie.Need-returns
 unfolding startOf
-returns c = simp (c .started .ensures, c .before .before .read-book .ensures .0)
+returns c =
+    (simp (c .started .ensures, c .before .before .read-book .ensures .0), c .before .before .read-book .ensures .1)
 
 pub start-spec : {M : Type 1} → statement M
 start-spec = tie.close (tie.spec read-book-requires started-requires returns)

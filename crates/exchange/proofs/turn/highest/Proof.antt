@@ -15,10 +15,10 @@ enum-told : tie.Need-enum-told
 enum-told c = search needs
 
 returns : tie.Need-returns
-returns c = version-highest _ _ _ (sym (c .before .before .before .shared-version .ensures) ∙ c .before .version .given .1)
+returns c = version-highest _ _ _ (sym (c .before .before .before .shared-version .ensures .0) ∙ c .before .version .given .1)
 
 returns-2 : tie.Need-returns-2
-returns-2 c = nothing-highest _ _ (sym (c .before .before .shared-version .ensures) ∙ c .enum-told .given .1)
+returns-2 c = nothing-highest _ _ (sym (c .before .before .shared-version .ensures .0) ∙ c .enum-told .given .1)
 
 pub highest-spec : {M : Type 1} → statement M
 highest-spec =

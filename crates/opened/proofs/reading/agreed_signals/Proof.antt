@@ -1,6 +1,6 @@
 -- `agreed_signals` is `agreedSignals`. Assumes nothing.
 use borrow.Author.Needs.{needs}
-use Rattle.protocol.specs.Opened.{agreedSignals}
+use Rattle.opened.proofs.Agreeing.{signals-agree}
 use Rattle.opened.proofs.reading.agreed_signals.Statement.{statement}
 use Rattle.opened.proofs.reading.agreed_signals.Tie as tie
 
@@ -20,15 +20,7 @@ agreed-requires-5 : tie.Need-agreed-requires-5
 agreed-requires-5 c κs = search needs
 
 returns : tie.Need-returns
-unfolding agreedSignals
-returns c =
-    simp (
-      c .agreed5 .ensures,
-      c .before .agreed4 .ensures,
-      c .before .before .agreed3 .ensures,
-      c .before .before .before .agreed2 .ensures,
-      c .before .before .before .before .agreed .ensures,
-    )
+returns c = search signals-agree
 
 pub agreed-signals-spec : {M : Type 1} → statement M
 agreed-signals-spec =

@@ -1,6 +1,7 @@
--- `reading` is protocol's `reading`. Assumes nothing.
+-- `reading` is protocol's `reading`, and delivers the unit that document 01 says. Assumes nothing.
 use borrow.Author.Needs.{needs}
 use Rattle.protocol.specs.Opened.{reading}
+use Rattle.opened.proofs.Delivers.{replies}
 use Rattle.opened.proofs.reading.reading.Statement.{statement}
 use Rattle.opened.proofs.reading.reading.Tie as tie
 
@@ -21,11 +22,11 @@ reads-form-requires c κs = search needs
 
 returns : tie.Need-returns
 unfolding reading
-returns c = simp (c .reads-word .ensures, c .before .kind .ensures, c .before .before .before .s .given .1)
+returns c = replies _ _ _ (simp (c .reads-word .ensures, c .before .kind .ensures .0, c .before .before .before .s .given .1))
 
 returns-2 : tie.Need-returns-2
 unfolding reading
-returns-2 c = simp (c .reads-form .ensures, c .before .before .s2 .given .1)
+returns-2 c = replies _ _ _ (simp (c .reads-form .ensures, c .before .before .s2 .given .1))
 
 pub reading-spec : {M : Type 1} → statement M
 reading-spec =

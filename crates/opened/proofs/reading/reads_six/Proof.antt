@@ -34,7 +34,7 @@ unfolding readsSix
 returns-2 c =
     simp (
       c .reads-idle .ensures,
-      c .before .kind .ensures,
+      c .before .kind .ensures .0,
       sym (c .before .before .before .is-data .ensures) ∙ c .before .before .if1 .left,
     )
 

@@ -32,7 +32,7 @@ returns c =
     let start = called .before .before .before .before .before in
     let short : start .args .delay ≤ 255 = search needs in
     ran-stands (start .args .delay) (start .pre) short (start .args .o) (start .args .a) _ (called .run .result) (called .before .joined .ensures)
-    (rw (called .before .before .larger .ensures) at (called .run .ensures)) (c .before .outcome .ensures) (c .outcome2 .ensures)
+    (rw (called .before .before .larger .ensures) at (called .run .ensures)) (c .before .outcome .ensures .0) (c .outcome2 .ensures .0)
 
 pub ran-spec : {M : Type 1} → statement M
 ran-spec =

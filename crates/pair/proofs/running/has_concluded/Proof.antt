@@ -18,13 +18,13 @@ enum-told-3 : tie.Need-enum-told-3
 enum-told-3 c = search needs
 
 returns : tie.Need-returns
-returns c = ap concluded (sym (c .enum-told .given .1) ∙ c .before .before .outcome .ensures)
+returns c = ap concluded (sym (c .enum-told .given .1) ∙ c .before .before .outcome .ensures .0)
 
 returns-2 : tie.Need-returns-2
-returns-2 c = ap concluded (sym (c .enum-told2 .given .1) ∙ c .before .before .outcome .ensures)
+returns-2 c = ap concluded (sym (c .enum-told2 .given .1) ∙ c .before .before .outcome .ensures .0)
 
 returns-3 : tie.Need-returns-3
-returns-3 c = ap concluded (sym (c .enum-told3 .given .1) ∙ c .before .before .outcome .ensures)
+returns-3 c = ap concluded (sym (c .enum-told3 .given .1) ∙ c .before .before .outcome .ensures .0)
 
 pub has-concluded-spec : {M : Type 1} → statement M
 has-concluded-spec =

@@ -13,7 +13,7 @@ slot-requires : tie.Need-slot-requires
 slot-requires c κs = search needs
 
 returns : tie.Need-returns
-returns c = simp (c .slot .ensures, c .before .idle .ensures)
+returns c = simp (c .slot .ensures .0, c .before .idle .ensures)
 
 pub hears-spec : {M : Type 1} → statement M
 hears-spec = tie.close (tie.spec array-read-t7 idle-requires slot-requires returns)

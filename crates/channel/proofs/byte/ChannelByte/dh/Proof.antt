@@ -1,7 +1,6 @@
 -- `channel::byte::ChannelByte::dh` meets its contract. Assumes nothing.
-use Rattle.channel.specs.Bytes.{byte}
-use mathlib.Core.Path.{ap}
-use Rattle.channel.proofs.Built.{dh-is}
+use native.Mathlib.Omega.{arith}
+use Rattle.channel.proofs.Built.{same-byte, dh-value}
 use borrow.Author.Needs.{needs}
 use Rattle.channel.proofs.byte.ChannelByte.dh.Statement.{statement}
 use Rattle.channel.proofs.byte.ChannelByte.dh.Tie as tie
@@ -13,7 +12,7 @@ add-t4 : tie.Need-add-t4
 add-t4 c = search needs
 
 returns : tie.Need-returns
-returns c = ap byte (dh-is _ (search needs))
+returns c = same-byte (omega (arith, dh-value (c .args .value) (search needs)))
 
 pub dh-spec : {M : Type 1} → statement M
 dh-spec = tie.close (tie.spec mul-t3 add-t4 returns)

@@ -1,7 +1,6 @@
 -- `channel::byte::ChannelByte::dl` meets its contract. Assumes nothing.
-use Rattle.channel.specs.Bytes.{byte}
-use mathlib.Core.Path.{ap}
-use Rattle.channel.proofs.Built.{dl-is}
+use native.Mathlib.Omega.{arith}
+use Rattle.channel.proofs.Built.{same-byte, dl-value}
 use borrow.Author.Needs.{needs}
 use Rattle.channel.proofs.byte.ChannelByte.dl.Statement.{statement}
 use Rattle.channel.proofs.byte.ChannelByte.dl.Tie as tie
@@ -13,7 +12,7 @@ add-t4 : tie.Need-add-t4
 add-t4 c = search needs
 
 returns : tie.Need-returns
-returns c = ap byte (dl-is _ (search needs))
+returns c = same-byte (omega (arith, dl-value (c .args .value) (search needs)))
 
 pub dl-spec : {M : Type 1} → statement M
 dl-spec = tie.close (tie.spec mul-t3 add-t4 returns)

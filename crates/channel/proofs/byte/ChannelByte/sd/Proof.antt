@@ -1,7 +1,6 @@
 -- `channel::byte::ChannelByte::sd` meets its contract. Assumes nothing.
-use Rattle.channel.specs.Bytes.{byte}
-use mathlib.Core.Path.{ap}
-use Rattle.channel.proofs.Built.{sd-is}
+use native.Mathlib.Omega.{arith}
+use Rattle.channel.proofs.Built.{same-byte, sd-value}
 use borrow.Author.Needs.{needs}
 use Rattle.channel.proofs.byte.ChannelByte.sd.Statement.{statement}
 use Rattle.channel.proofs.byte.ChannelByte.sd.Tie as tie
@@ -38,14 +37,16 @@ add-t12 c = search needs
 
 returns : tie.Need-returns
 returns c =
-    rw (
+    same-byte
+    (omega (
+      arith,
+      sd-value (c .before .before .before .before .before .args .leads) (c .before .before .before .before .before .args .bk),
       c .before .before .before .before .weight .ensures .0,
       c .before .before .before .weight2 .ensures .0,
       c .before .before .weight3 .ensures .0,
       c .before .weight4 .ensures .0,
       c .weight5 .ensures .0,
-    )
-    (ap byte (sd-is _ _))
+    ))
 
 pub sd-spec : {M : Type 1} → statement M
 sd-spec =

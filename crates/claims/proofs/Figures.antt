@@ -1,0 +1,138 @@
+-- The sentences of document 01 as figures: what the paper writes, in numbers, beside what the definitions give, on both sides of each line that
+-- a sentence draws. The tables stand in the crates whose definitions they hold; here all of them are cited. Assumes nothing.
+use mathlib.Core.Path.{_≡_}
+use mathlib.Core.Bool.{true, false}
+use mathlib.Core.List.{List, _++_}
+use mathlib.Core.Logic.{_↔_}
+use Prim.Native.Nat.{ℕ, _*_, _-_, _^_, _<_, _≤_}
+use lib.Dec.{eqb}
+use lib.ListN.{length, replicate}
+use Rattle.ground.specs.Digits.{allBelow}
+use Rattle.channel.specs.Bytes.{signalling, sgvi, sdidle, sdByte}
+use Rattle.channel.specs.Kinds.{kindNumber, kindOf, howMany}
+use Rattle.channel.specs.Forms.{unitByte, sameBothWays, isAmong}
+use Rattle.channel.specs.declared.kind.Kind.the-variants.{Sgvi}
+use Rattle.channel.specs.declared.unit.Form.the-variants.{SevenV1, SevenV2}
+use Rattle.channel.proofs.Figures.{BytesAsListed, bytes-as-listed, KindsAsRead, kinds-as-read, UnitsAsLaid, units-as-laid, WordsAsLaid, words-as-laid, VersionsAsChosen, versions-as-chosen, VotesAsCounted, votes-as-counted}
+use Rattle.channel.proofs.KindTable.{kinds-counted, others-counted}
+use Rattle.channel.proofs.ReadBack.{signalling-read, sgvi-read, sdidle-is}
+use Rattle.channel.proofs.RoundTrip.{versions-agree}
+use Rattle.packing.specs.FormsOfData.{bitsOf, octetsIn, unpacked}
+use Rattle.packing.specs.NumbersOfRefusal.{unpackRefusal}
+use Rattle.packing.proofs.Figures.{PackedAsCounted, packed-as-counted, PackingRefused, packing-refused, WrittenAsPromised, written-as-promised}
+use Rattle.packing.proofs.Trips.{bits-kept-back}
+use Rattle.book.specs.declared.Book.{Book}
+use Rattle.book.specs.Book.{entriesBytes, bookBytes}
+use Rattle.book.specs.Reading.{accepts, readBook}
+use Rattle.book.specs.Kept.{bookOk}
+use Rattle.book.proofs.Samples.{BookFigures, book-figures}
+use Rattle.book.proofs.RoundTrip.{passes-exactly, written-bytes}
+use Rattle.text.specs.Numerals.{decimalOf}
+use Rattle.text.proofs.Figures.{readFrom, Figures, figures, read-back}
+use Rattle.protocol.specs.Answers.{saysOutcome, saysReply}
+use Rattle.protocol.specs.declared.Outcome.{Outcome}
+use Rattle.protocol.specs.declared.Reply.{Reply}
+use Rattle.protocol.proofs.FiguresExchange.{ExchangeFigures, exchange-figures}
+use Rattle.protocol.proofs.FiguresOpen.{OpenFigures, open-figures}
+use Rattle.protocol.proofs.FiguresRefusals.{RefusalFigures, refusal-figures}
+use Rattle.protocol.proofs.FiguresAnswers.{AnswerFigures, answer-figures}
+use Rattle.protocol.proofs.Figures.{PairFigures, pair-figures}
+use Rattle.endpoint.proofs.SaysAll.{outcome-says-all, reply-says-all}
+use Rattle.script.proofs.Samples.{ScriptFigures, script-figures}
+
+-- Bytes on the channel, forms of data, the vote and the version.
+pub record ChannelHeld : Type 0 where
+  pub bytes : BytesAsListed
+  pub kinds : KindsAsRead
+  pub units : UnitsAsLaid
+  pub words : WordsAsLaid
+  pub versions : VersionsAsChosen
+  pub votes : VotesAsCounted
+  -- 16 DL, 16 DH and 32 Sd codes, 54 unassigned, and one of each of the 10 others
+  pub counted : (howMany 1 128 ≡ 16) × (howMany 2 128 ≡ 16) × (howMany 3 128 ≡ 32) × (howMany 0 128 ≡ 54)
+  pub others : (k : ℕ) → k < 14 → 4 ≤ k → howMany k 128 ≡ 1
+  -- each signalling code is read as what it is, and Sdidle is the Sd with s2 alone on
+  pub codes : (n : ℕ) → n < 14 → 4 ≤ n → kindNumber (signalling n) ≡ n
+  pub hail : kindOf sgvi ≡ Sgvi
+  pub idle : sdByte (record { s0 = false; s1 = false; s2 = true; s3 = false }) false ≡ sdidle
+  -- the versions of form 7 lay 16 units alike, and no other
+  pub orders : (u : ℕ) → u < 128 → eqb (unitByte SevenV1 u) (unitByte SevenV2 u) ≡ isAmong u sameBothWays
+
+channel-held : ChannelHeld
+channel-held =
+    record {
+      bytes = bytes-as-listed;
+      kinds = kinds-as-read;
+      units = units-as-laid;
+      words = words-as-laid;
+      versions = versions-as-chosen;
+      votes = votes-as-counted;
+      counted = kinds-counted;
+      others = others-counted;
+      codes = signalling-read;
+      hail = sgvi-read;
+      idle = sdidle-is;
+      orders = versions-agree;
+    }
+
+pub record PackingHeld : Type 0 where
+  pub packs : PackedAsCounted
+  pub refuses : PackingRefused
+  pub writes : WrittenAsPromised
+  -- the bits of units that are unpacked are the bits of the octets, in their order, and then zeros
+  pub bits : (k : ℕ) (us : List ℕ) (len at : ℕ) → unpackRefusal k us len at ≡ 0
+      → bitsOf k us ≡ bitsOf 8 (unpacked k us) ++ replicate (k * length us - 8 * octetsIn k (length us)) 0
+
+packing-held : PackingHeld
+packing-held = record { packs = packed-as-counted; refuses = packing-refused; writes = written-as-promised; bits = bits-kept-back }
+
+pub record BookHeld : Type 0 where
+  pub figures : BookFigures
+  -- the check of a kept book is true exactly of the books that reading yields, and what such a book is written out as is bytes
+  pub exactly : (b : Book) → (bookOk b ≡ true) ↔ ((s : List ℕ) × (readBook s ≡ accepts b))
+  pub bytes : (b : Book) → bookOk b ≡ true → b .limit < 2 ^ 16 → allBelow 256 (entriesBytes (b .entries)) ≡ true → allBelow 256 (bookBytes b) ≡ true
+
+book-held : BookHeld
+book-held = record { figures = book-figures; exactly = passes-exactly; bytes = written-bytes }
+
+-- Numbers as they are written, lines and scripts.
+pub record TextHeld : Type 0 where
+  pub numerals : Figures
+  pub back : (n : ℕ) → n < 65536 → readFrom 0 (decimalOf n) ≡ n
+  pub scripts : ScriptFigures
+
+text-held : TextHeld
+text-held = record { numerals = figures; back = read-back; scripts = script-figures }
+
+-- One slot, 12 and 13 and the ranges; the answers in numbers; the worked figures of the joined pair.
+pub record EndHeld : Type 0 where
+  pub exchange : ExchangeFigures
+  pub opened : OpenFigures
+  pub refusals : RefusalFigures
+  pub answers : AnswerFigures
+  -- answers that say the same are the same
+  pub outcomes : (o p : Outcome) → saysOutcome o ≡ saysOutcome p → o ≡ p
+  pub replies : (r s : Reply) → saysReply r ≡ saysReply s → r ≡ s
+  pub pair : PairFigures
+
+end-held : EndHeld
+end-held =
+    record {
+      exchange = exchange-figures;
+      opened = open-figures;
+      refusals = refusal-figures;
+      answers = answer-figures;
+      outcomes = outcome-says-all;
+      replies = reply-says-all;
+      pair = pair-figures;
+    }
+
+pub record SentencesHeld : Type 0 where
+  pub channel : ChannelHeld
+  pub packing : PackingHeld
+  pub book : BookHeld
+  pub text : TextHeld
+  pub end : EndHeld
+
+pub sentences-held : SentencesHeld
+sentences-held = record { channel = channel-held; packing = packing-held; book = book-held; text = text-held; end = end-held }
