@@ -7,19 +7,19 @@ use native.Mathlib.Omega.{arith}
 use lib.ListN.{length}
 use borrow.Author.Tests.{lt-ltb, le-ltb, ne-eqb}
 use Rattle.book.specs.declared.Book.{Book}
-use Rattle.book.specs.Book.{bookVersion, headerLength, versionAt, entryStart, wordAt}
+use Rattle.book.specs.Book.{bookVersion, leastHeader, entryStart, versionIn}
 use Rattle.book.specs.Refusals.{leastLimit, isMark, startNo, isMask, wrongCount, valuesNo, lengthNo}
 
 module _ (s : List ℕ) where
-  pub start-short : length s < headerLength → 1 ≡ startNo s
+  pub start-short : length s < leastHeader → 1 ≡ startNo s
   unfolding startNo
   start-short h = simp (lt-ltb _ _ h)
 
-  pub start-mark : (m : Bool) → headerLength ≤ length s → m ≡ isMark s → not m ≡ true → 2 ≡ startNo s
+  pub start-mark : (m : Bool) → leastHeader ≤ length s → m ≡ isMark s → not m ≡ true → 2 ≡ startNo s
   unfolding startNo
   start-mark m h e f = rw (le-ltb _ _ h, ← e, f)
 
-  module _ (m : Bool) (v : ℕ) (h : headerLength ≤ length s) (e : m ≡ isMark s) (f : not m ≡ false) (d : v ≡ wordAt s versionAt) where
+  module _ (m : Bool) (v : ℕ) (h : leastHeader ≤ length s) (e : m ≡ isMark s) (f : not m ≡ false) (d : v ≡ versionIn s) where
     pub start-version : (v ≡ bookVersion → ⊥) → 3 ≡ startNo s
     unfolding startNo
     start-version g = rw (le-ltb _ _ h, ← e, f, ← d, ne-eqb _ _ g)
@@ -56,16 +56,16 @@ module _ (b : Book) where
 
 pub ruleset values = (values-role, values-mask, values-limit, values-count, values-fine)
 
-module _ (s : List ℕ) (n i k : ℕ) (e : i ≡ n) (d : k ≡ entryStart i) where
-  pub length-short : length s < k → 1 ≡ lengthNo s n
+module _ (version : ℕ) (s : List ℕ) (n i k : ℕ) (e : i ≡ n) (d : k ≡ entryStart version i) where
+  pub length-short : length s < k → 1 ≡ lengthNo version s n
   unfolding lengthNo
   length-short h = rw (← e, ← d, lt-ltb _ _ h)
 
-  pub length-beyond : k < length s → 11 ≡ lengthNo s n
+  pub length-beyond : k < length s → 11 ≡ lengthNo version s n
   unfolding lengthNo
   length-beyond h = rw (← e, ← d, le-ltb (length s) k (omega arith), lt-ltb _ _ h)
 
-  pub length-fine : k ≤ length s → length s ≤ k → 0 ≡ lengthNo s n
+  pub length-fine : k ≤ length s → length s ≤ k → 0 ≡ lengthNo version s n
   unfolding lengthNo
   length-fine h g = rw (← e, ← d, le-ltb _ _ h, le-ltb _ _ g)
 

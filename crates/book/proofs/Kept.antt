@@ -117,11 +117,11 @@ passed b h =
       rest = both-right (eqb (length (b .entries)) mostEntries) _ y;
     }
 
-count-facts : (role n : ℕ) → wrongCount role n ≡ false → (1 ≤ n) × (role ≡ 0 → n ≡ 1)
-count-facts role n h =
-    let x = neither (eqb n 0 || ltb mostEntries n) (eqb role 0 && not (eqb n 1)) h in
-    let y = eqb-false n 0 (neither (eqb n 0) (ltb mostEntries n) (x .0) .0) in
-    (omega arith, λ (q : role ≡ 0). eqb-true n 1 (not-false _ (rw q at (x .1))))
+count-facts : (b : Book) → wrongCount (b .role) (b .n) ≡ false → (1 ≤ b .n) × (b .role ≡ 0 → b .n ≡ 1)
+count-facts b h =
+    let x = neither (eqb (b .n) 0 || ltb mostEntries (b .n)) (eqb (b .role) 0 && not (eqb (b .n) 1)) h in
+    let y = eqb-false (b .n) 0 (neither (eqb (b .n) 0) (ltb mostEntries (b .n)) (x .0) .0) in
+    (omega arith, λ (q : b .role ≡ 0). eqb-true (b .n) 1 (not-false _ (rw q at (x .1))))
 
 module _ (b : Book) (p : Passed b) where
   few : b .n ≤ mostEntries
@@ -150,7 +150,7 @@ pub kept : (b : Book) → bookOk b ≡ true → KeptBook b
 kept b h =
     let p = passed b h in
     let v = valued b (p .values) in
-    let c = count-facts (b .role) (b .n) (v .count) in
+    let c = count-facts b (v .count) in
     let m = mask-bounds (b .mask) (v .mask) in
     record {
       role = v .role;

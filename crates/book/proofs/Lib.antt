@@ -2,6 +2,7 @@ mod Header
 mod Entries
 mod Loading
 mod NothingWrong
+mod Versions
 pub mod Reply
 mod Lookup
 mod KeptCheck

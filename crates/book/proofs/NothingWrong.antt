@@ -8,7 +8,7 @@ use lib.ListN.{length}
 use lib.Dec.{ltb, eqb}
 use borrow.Author.Tests.{ltb-false, eqb-true, ne-eqb, not-false}
 use Rattle.book.specs.declared.Book.{Book}
-use Rattle.book.specs.Book.{bookVersion, headerLength, mostEntries, versionAt, entryStart, wordAt, bookOf}
+use Rattle.book.specs.Book.{bookVersion, leastHeader, mostEntries, entryStart, versionIn, bookOf}
 use Rattle.book.specs.Refusals.{orElse, leastLimit, isMark, startNo, isMask, wrongCount, valuesNo, lengthNo, entriesNo, bookNo}
 
 pub neither : (a b : Bool) → (a || b) ≡ false → (a ≡ false) × (b ≡ false)
@@ -24,16 +24,16 @@ else-zero zero b h = (refl, h)
 else-zero (suc a) b h = absurd (omega (arith, rw (ne-eqb (suc a) 0 (λ (p : suc a ≡ 0). omega arith)) at h))
 
 pub record Started (s : List ℕ) : Type 0 where
-  pub long : headerLength ≤ length s
+  pub long : leastHeader ≤ length s
   pub mark : isMark s ≡ true
-  pub version : wordAt s versionAt ≡ bookVersion
+  pub version : versionIn s ≡ bookVersion
 
 pub started : (s : List ℕ) → startNo s ≡ 0 → Started s
 unfolding startNo
 started s h =
-    let a = cond-zero (ltb (length s) headerLength) 0 _ h in
+    let a = cond-zero (ltb (length s) leastHeader) 0 _ h in
     let b = cond-zero (not (isMark s)) 1 _ (a .1) in
-    let c = cond-zero (not (eqb (wordAt s versionAt) bookVersion)) 2 0 (b .1) in
+    let c = cond-zero (not (eqb (versionIn s) bookVersion)) 2 0 (b .1) in
     record {
       long = ltb-false _ _ (a .0);
       mark = not-false _ (b .0);
@@ -62,18 +62,18 @@ valued b h =
       few = ltb-false _ _ (neither (eqb (b .n) 0) _ (neither (eqb (b .n) 0 || ltb mostEntries (b .n)) _ (w .0) .0) .1);
     }
 
-pub sized : (s : List ℕ) (n : ℕ) → lengthNo s n ≡ 0 → length s ≡ entryStart n
+pub sized : (version : ℕ) (s : List ℕ) (n : ℕ) → lengthNo version s n ≡ 0 → length s ≡ entryStart version n
 unfolding lengthNo
-sized s n h =
-    let x = cond-zero (ltb (length s) (entryStart n)) 0 _ h in
-    let y = cond-zero (ltb (entryStart n) (length s)) 10 0 (x .1) in
-    omega (arith, ltb-false (length s) (entryStart n) (x .0), ltb-false (entryStart n) (length s) (y .0))
+sized version s n h =
+    let x = cond-zero (ltb (length s) (entryStart version n)) 0 _ h in
+    let y = cond-zero (ltb (entryStart version n) (length s)) 10 0 (x .1) in
+    omega (arith, ltb-false (length s) (entryStart version n) (x .0), ltb-false (entryStart version n) (length s) (y .0))
 
 -- each stage of the checks on the bytes s
 pub record Fine (s : List ℕ) : Type 0 where
   pub start : startNo s ≡ 0
   pub values : valuesNo (bookOf s) ≡ 0
-  pub size : lengthNo s (bookOf s .n) ≡ 0
+  pub size : lengthNo (versionIn s) s (bookOf s .n) ≡ 0
   pub entries : entriesNo (bookOf s) ≡ 0
 
 pub fine : (s : List ℕ) → bookNo s ≡ 0 → Fine s
@@ -81,7 +81,7 @@ unfolding bookNo
 fine s h =
     let x = else-zero (startNo s) _ h in
     let y = else-zero (valuesNo (bookOf s)) _ (x .1) in
-    let z = else-zero (lengthNo s (bookOf s .n)) _ (y .1) in
+    let z = else-zero (lengthNo (versionIn s) s (bookOf s .n)) _ (y .1) in
     record { start = x .0; values = y .0; size = z .0; entries = z .1 }
 
 pub fine-zero : (s : List ℕ) → Fine s → bookNo s ≡ 0

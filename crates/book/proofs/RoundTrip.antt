@@ -15,15 +15,16 @@ use Rattle.ground.proofs.Test.{both-left, both-right}
 use Rattle.book.specs.declared.Entry.{Entry}
 use Rattle.book.specs.declared.Book.{Book}
 use Rattle.book.specs.declared.BookRead.{BookRead}
-use Rattle.book.specs.Book.{mark, headerLength, entryLength, mostEntries, entryStart, entryAt, entriesOf, noEntry, keptEntries, bookOf, sameParams, entryBytes, entriesBytes, headerBytes, bookBytes}
+use Rattle.book.specs.Book.{mark, leastHeader, headerLength, entryLength, mostEntries, entryStart, versionIn, entryAt, entriesOf, noEntry, keptEntries, bookOf, versionOf, sameParams, entryBytes, entriesBytes, headerBytes, bookBytes}
 use Rattle.book.specs.Refusals.{valuesNo, entriesNo, bookNo}
-use Rattle.book.specs.Reading.{accepts, readBook, hasEntry, entryPart}
+use Rattle.book.specs.Reading.{numberOf, accepts, readBook, hasEntry, entryPart}
 use Rattle.book.specs.Kept.{isNone, allNone, isPadded, bookOk}
 use Rattle.book.proofs.Header.{start-fine, length-fine}
 use Rattle.book.proofs.Loading.{entries-length}
 use Rattle.book.proofs.NothingWrong.{started, valued, sized, Fine, fine, fine-zero}
+use Rattle.book.proofs.Versions.{least-header, header-size, version-kept, version-written, version-known}
 use Rattle.book.proofs.Params.{same-equal}
-use Rattle.book.proofs.Reply.{read-number}
+use Rattle.book.proofs.Reply.{read-number, read-accepted}
 use Rattle.book.proofs.Kept.{Passed, passed, kept}
 use Rattle.book.proofs.Written.{run, run-is, entry-run, bytes-length, bytes-append, entries-run, entry-kept, written-read}
 
@@ -63,17 +64,17 @@ module _ (s : List ℕ) (b : Book) (h : readBook s ≡ accepts b) where
 
 -- The kept entries of the bytes s.
 
-kept-room : (s : List ℕ) (n : ℕ) → n ≤ mostEntries → length (keptEntries s n) ≡ mostEntries
+kept-room : (version : ℕ) (s : List ℕ) (n : ℕ) → n ≤ mostEntries → length (keptEntries version s n) ≡ mostEntries
 unfolding keptEntries
-kept-room s n l = rw (length-append, entries-length, length-replicate) (omega arith)
+kept-room version s n l = rw (length-append, entries-length, length-replicate) (omega arith)
 
-kept-rest : (s : List ℕ) (n : ℕ) → drop n (keptEntries s n) ≡ replicate (mostEntries - n) noEntry
+kept-rest : (version : ℕ) (s : List ℕ) (n : ℕ) → drop n (keptEntries version s n) ≡ replicate (mostEntries - n) noEntry
 unfolding keptEntries
-kept-rest s n = drop-at (entriesOf s n) (replicate (mostEntries - n) noEntry) n (entries-length s n)
+kept-rest version s n = drop-at (entriesOf version s n) (replicate (mostEntries - n) noEntry) n (entries-length version s n)
 
-kept-first : (s : List ℕ) (n : ℕ) → take n (keptEntries s n) ≡ entriesOf s n
+kept-first : (version : ℕ) (s : List ℕ) (n : ℕ) → take n (keptEntries version s n) ≡ entriesOf version s n
 unfolding keptEntries
-kept-first s n = take-at (entriesOf s n) (replicate (mostEntries - n) noEntry) n (entries-length s n)
+kept-first version s n = take-at (entriesOf version s n) (replicate (mostEntries - n) noEntry) n (entries-length version s n)
 
 -- every book that reading yields passes
 pub read-passes : (s : List ℕ) (b : Book) → readBook s ≡ accepts b → bookOk b ≡ true
@@ -81,7 +82,13 @@ unfolding bookOk isPadded
 read-passes s b h =
     let f = fine s (read-fine s b h) in
     let l = valued (bookOf s) (f .values) .few in
-    rw (read-is s b h, f .values, f .entries, kept-room s (bookOf s .n) l, kept-rest, none-all)
+    rw (read-is s b h, f .values, f .entries, kept-room (versionIn s) s (bookOf s .n) l, kept-rest, none-all)
+
+-- and that is the book beside the number 0
+pub number-passes : (s : List ℕ) → numberOf (readBook s .verdict) ≡ 0 → bookOk (readBook s .book) ≡ true
+number-passes s e =
+    let reads = read-accepted s (sym (read-number s (readBook s) refl) ∙ e) in
+    rw reads (read-passes s (bookOf s) reads)
 
 -- A book that passes, written out, is read again.
 
@@ -96,34 +103,32 @@ module _ (b : Book) (p : Passed b) where
   rest-none : drop (b .n) (b .entries) ≡ replicate (mostEntries - b .n) noEntry
   rest-none = nones (drop (b .n) (b .entries)) (p .rest) ∙ rw (length-drop, p .room)
 
-  entries-back : keptEntries (bookBytes b) (b .n) ≡ b .entries
+  entries-back : keptEntries (versionIn (bookBytes b)) (bookBytes b) (b .n) ≡ b .entries
   unfolding keptEntries bookBytes first
   entries-back =
       let l = first-length in
-      rw (written-read (headerBytes b) first (b .n) refl (omega arith), take-all (b .n) first (omega arith), ← rest-none, take-append-drop)
+      let h : length (headerBytes b) ≡ headerLength (versionIn (bookBytes b)) = rw version-written (header-size b) in
+      rw (written-read (versionIn (bookBytes b)) (headerBytes b) first (b .n) h (omega arith), take-all (b .n) first (omega arith), ← rest-none, take-append-drop)
 
   book-back : bookOf (bookBytes b) ≡ b
   unfolding bookBytes
-  book-back =
-      λ i. record {
-        role = b .role;
-        mask = b .mask;
-        limit = div-add-mod (b .limit) 256 i;
-        n = b .n;
-        entries = entries-back i;
-      }
+  book-back = rw (div-add-mod (b .limit) 256, entries-back)
 
-  bytes-size : length (bookBytes b) ≡ entryStart (b .n)
+  bytes-size : length (bookBytes b) ≡ entryStart (versionIn (bookBytes b)) (b .n)
   unfolding bookBytes first
-  bytes-size = let l = first-length in omega (arith, length-append (headerBytes b) (entriesBytes first), bytes-length first)
+  bytes-size =
+      let l = first-length in
+      rw version-written (omega (arith, header-size b, length-append (headerBytes b) (entriesBytes first), bytes-length first))
 
   written-fine : Fine (bookBytes b)
   unfolding bookBytes
   written-fine =
+      let v = versionIn (bookBytes b) in
+      let long : leastHeader ≤ length (bookBytes b) = omega (arith, bytes-size, least-header v) in
       record {
-        start = sym (start-fine (bookBytes b) true 1 (omega (arith, bytes-size)) refl refl refl refl);
+        start = sym (start-fine (bookBytes b) true (versionOf b) long refl refl (sym (version-written b)) (version-known b));
         values = ap valuesNo book-back ∙ p .values;
-        size = sym (length-fine (bookBytes b) (b .n) (b .n) (entryStart (b .n)) refl refl (omega (arith, bytes-size)) (omega (arith, bytes-size)));
+        size = sym (length-fine v (bookBytes b) (b .n) (b .n) (entryStart v (b .n)) refl refl (omega (arith, bytes-size)) (omega (arith, bytes-size)));
         entries = ap entriesNo book-back ∙ p .entries;
       }
 
@@ -155,7 +160,10 @@ written-bytes b h l e =
     let s : entriesBytes (b .entries) ≡ t ++ entriesBytes (drop (b .n) (b .entries)) =
     ap entriesBytes (sym (take-append-drop (b .n) (b .entries))) ∙ bytes-append (take (b .n) (b .entries)) (drop (b .n) (b .entries)) in
     let u : allBelow 256 t ≡ true = below-left 256 t (entriesBytes (drop (b .n) (b .entries))) (rw s at e) in
+    let v = version-known b in
     rw (
+      lt-ltb (versionOf b / 256) 256 (omega arith),
+      lt-ltb (versionOf b % 256) 256 (omega arith),
       lt-ltb (b .role) 256 (omega arith),
       lt-ltb (b .mask) 256 (omega arith),
       lt-ltb (b .limit / 256) 256 (omega arith),
@@ -173,19 +181,24 @@ below-at b (x ∷ xs) h zero l = ltb-true x b (both-left (ltb x b) (allBelow b x
 below-at b (x ∷ xs) h (suc i) l = below-at b xs (both-right (ltb x b) (allBelow b xs) h) i (le-of-suc-le-suc l)
 
 module _ (s : List ℕ) (f : Fine s) (bytes : allBelow 256 s ≡ true) where
-  header-run : headerBytes (bookOf s) ≡ run s 0 headerLength
+  version-same : versionOf (bookOf s) ≡ versionIn s
+  version-same = version-kept s (started s (f .start) .version)
+
+  header-run : headerBytes (bookOf s) ≡ run s 0 (headerLength (versionIn s))
+  unfolding headerLength versionIn
   header-run =
       let t = started s (f .start) in
       let l = t .long in
-      let v = t .version in
+      let v = version-same in
+      let version-low = below-at 256 s bytes 4 (omega arith) in
       let same : ℕ → Bool = λ i. eqb (getD s i 0) (getD mark i 0) in
       let m = both-left (same 0 && same 1) (same 2) (t .mark) in
       let m0 = eqb-true (getD s 0 0) (getD mark 0 0) (both-left (same 0) (same 1) m) in
       let m1 = eqb-true (getD s 1 0) (getD mark 1 0) (both-right (same 0) (same 1) m) in
       let m2 = eqb-true (getD s 2 0) (getD mark 2 0) (both-right (same 0 && same 1) (same 2) (t .mark)) in
-      let v0 : getD s 3 0 ≡ 0 = omega arith in
-      let v1 : getD s 4 0 ≡ 1 = omega arith in
-      let low = below-at 256 s bytes 8 (omega arith) in
+      let v0 : versionOf (bookOf s) / 256 ≡ getD s 3 0 = omega arith in
+      let v1 : versionOf (bookOf s) % 256 ≡ getD s 4 0 = omega arith in
+      let limit-low = below-at 256 s bytes 8 (omega arith) in
       let l0 : (256 * getD s 7 0 + getD s 8 0) / 256 ≡ getD s 7 0 = omega arith in
       let l1 : (256 * getD s 7 0 + getD s 8 0) % 256 ≡ getD s 8 0 = omega arith in
       rw (l0, l1, m0, m1, m2, v0, v1)
@@ -194,15 +207,17 @@ module _ (s : List ℕ) (f : Fine s) (bytes : allBelow 256 s ≡ true) where
   unfolding bookBytes
   book-bytes =
       let n = bookOf s .n in
-      let l = sized s n (f .size) in
-      let h : headerBytes (bookOf s) ≡ take headerLength s = header-run ∙ run-is s 0 headerLength (omega arith) in
-      let e : entriesBytes (take n (keptEntries s n)) ≡ drop headerLength s =
-      ap entriesBytes (kept-first s n)
-      ∙ entries-run s n (omega arith)
-      ∙ take-all (entryLength * n) (drop headerLength s) (omega (arith, length-drop headerLength s)) in
+      let v = versionIn s in
+      let k = headerLength v in
+      let l = sized v s n (f .size) in
+      let h : headerBytes (bookOf s) ≡ take k s = header-run ∙ run-is s 0 k (omega arith) in
+      let e : entriesBytes (take n (keptEntries v s n)) ≡ drop k s =
+      ap entriesBytes (kept-first v s n)
+      ∙ entries-run v s n (omega arith)
+      ∙ take-all (entryLength * n) (drop k s) (omega (arith, length-drop k s)) in
       ap (λ (r : List ℕ). headerBytes (bookOf s) ++ r) e
-      ∙ ap (λ (r : List ℕ). r ++ drop headerLength s) h
-      ∙ take-append-drop headerLength s
+      ∙ ap (λ (r : List ℕ). r ++ drop k s) h
+      ∙ take-append-drop k s
 
 -- every accepted file is its book's own bytes
 pub read-written : (s : List ℕ) (b : Book) → readBook s ≡ accepts b → allBelow 256 s ≡ true → bookBytes b ≡ s
@@ -217,7 +232,8 @@ part-is-entry s b i h l =
     let e = read-is s b h in
     let c : b .n ≡ bookOf s .n = ap (λ (x : Book). x .n) e in
     let k : i < bookOf s .n = omega arith in
-    let f = sized s (bookOf s .n) (fine s z .size) in
-    let j : i < length (entriesOf s (bookOf s .n)) = omega (arith, entries-length s (bookOf s .n)) in
-    rw (z, lt-ltb _ _ k, e, List·getD-append (entriesOf s (bookOf s .n)) (replicate (mostEntries - bookOf s .n) noEntry) noEntry i j, entry-kept s (bookOf s .n) i k)
-    (sym (entry-run s (entryStart i) (omega arith)))
+    let v = versionIn s in
+    let f = sized v s (bookOf s .n) (fine s z .size) in
+    let j : i < length (entriesOf v s (bookOf s .n)) = omega (arith, entries-length v s (bookOf s .n)) in
+    rw (z, lt-ltb _ _ k, e, List·getD-append (entriesOf v s (bookOf s .n)) (replicate (mostEntries - bookOf s .n) noEntry) noEntry i j, entry-kept v s (bookOf s .n) i k)
+    (sym (entry-run s (entryStart v i) (omega arith)))

@@ -8,7 +8,7 @@ use lib.ListN.{length, take, replicate, set}
 use Rattle.book.specs.declared.Entry.{Entry}
 use Rattle.book.specs.declared.Book.{Book}
 use Rattle.book.specs.declared.Verdict.the-variants.{Accepted, Refused}
-use Rattle.book.specs.Book.{entriesOf, keptEntries, paramsOf, wordBytes, entriesBytes, bookBytes}
+use Rattle.book.specs.Book.{headerLength, versionIn, entriesOf, keptEntries, bookWith, versionOf, paramsOf, wordBytes, entriesBytes, bookBytes}
 use Rattle.book.specs.Refusals.{startNo, valuesNo, lengthNo, seenIn, entryNo, eachNo, entriesNo, bookNo}
 use Rattle.book.specs.Reading.{numberOf, readBook, hasEntry, entryPart, partAt}
 use Rattle.book.specs.Kept.{allNone, isPadded, bookOk}
@@ -121,7 +121,7 @@ cases =
     ∷ []
 
 numbers-hold : map (λ (c : List ℕ × ℕ). bookNo (c .0)) cases ≡ map (λ (c : List ℕ × ℕ). c .1) cases
-unfolding bookNo startNo valuesNo lengthNo entriesNo eachNo entryNo seenIn entriesOf keptEntries
+unfolding bookNo startNo valuesNo lengthNo entriesNo eachNo entryNo seenIn headerLength versionIn entriesOf keptEntries
 numbers-hold = refl
 
 -- Kept books.
@@ -136,7 +136,7 @@ nothing = record { p0 = 0; p1 = 0; p2 = 0; p3 = 0; p4 = 0; form = 0; w = 0 }
 -- with nothing past the entries given
 abbrev pub keeps : ℕ → ℕ → ℕ → ℕ → List Entry → Book
 keeps role mask limit n es =
-    record { role = role; mask = mask; limit = limit; n = n; entries = es ++ replicate (8 - length es) nothing }
+    bookWith role mask limit n (es ++ replicate (8 - length es) nothing)
 
 abbrev pub seven : List Entry
 seven = profile 1 5 7 0 ∷ profile 2 5 7 0 ∷ profile 3 5 7 0 ∷ profile 4 5 7 0 ∷ profile 5 5 7 0 ∷ profile 6 5 7 0 ∷ profile 7 5 7 0 ∷ []
@@ -161,7 +161,7 @@ keptCases =
     ∷ (keeps 1 3 500 1 (profile 1 5 7 0 ∷ profile 2 5 7 0 ∷ []), false)
     ∷ (keeps 0 3 500 1 (profile 1 5 7 0 ∷ nothing ∷ record { p0 = 0; p1 = 0; p2 = 0; p3 = 0; p4 = 0; form = 0; w = 1 } ∷ []), false)
     ∷ (keeps 1 3 500 7 (seven ++ (profile 8 5 7 0 ∷ [])), false)
-    ∷ (record { role = 0; mask = 3; limit = 500; n = 1; entries = profile 1 5 7 0 ∷ [] }, false)
+    ∷ (bookWith 0 3 500 1 (profile 1 5 7 0 ∷ []), false)
     ∷ []
 
 kept-hold : map (λ (c : Book × Bool). bookOk (c .0)) keptCases ≡ map (λ (c : Book × Bool). c .1) keptCases
@@ -180,7 +180,7 @@ pub record Replies : Type 0 where
   pub accepted : readBook two ≡ record { verdict = Accepted; book = keptTwo }
   -- a refusal yields the number alone
   pub refused : readBook (take 23 two)
-      ≡ record { verdict = Refused 1; book = record { role = 0; mask = 0; limit = 0; n = 0; entries = replicate 8 nothing } }
+      ≡ record { verdict = Refused 1; book = bookWith 0 0 0 0 (replicate 8 nothing) }
   pub numbers : map numberOf (Accepted ∷ Refused 1 ∷ Refused 11 ∷ []) ≡ 0 ∷ 1 ∷ 11 ∷ []
   -- entry i, counted from 0: those seven bytes of the book
   pub first : entryPart two 0 ≡ entry 1 5 7 0
@@ -198,8 +198,8 @@ pub record Replies : Type 0 where
 
 replies-hold : Replies
 unfolding
-    readBook entryPart partAt hasEntry bookNo startNo valuesNo lengthNo entriesNo eachNo entryNo seenIn entriesOf keptEntries entriesBytes
-    bookBytes
+    readBook entryPart partAt hasEntry bookNo startNo valuesNo lengthNo entriesNo eachNo entryNo seenIn headerLength versionIn entriesOf
+    keptEntries versionOf entriesBytes bookBytes
 replies-hold =
     record {
       accepted = refl;

@@ -39,25 +39,27 @@ bytes-append [] ys = refl
 bytes-append (x ∷ xs) ys = ap (λ (l : List ℕ). entryBytes x ++ l) (bytes-append xs ys)
 
 -- the entries of s, written again
-pub entries-run : (s : List ℕ) (n : ℕ) → entryStart n ≤ length s → entriesBytes (entriesOf s n) ≡ take (entryLength * n) (drop headerLength s)
+pub entries-run : (version : ℕ) (s : List ℕ) (n : ℕ) → entryStart version n ≤ length s
+    → entriesBytes (entriesOf version s n) ≡ take (entryLength * n) (drop (headerLength version) s)
 unfolding entriesOf entriesBytes
-entries-run s zero h = refl
-entries-run s (suc n) h =
+entries-run version s zero h = refl
+entries-run version s (suc n) h =
     let x : entryLength * suc n ≡ entryLength * n + entryLength = omega arith in
-    let r = entries-run s n (omega arith) in
-    let e = entry-run s (entryStart n) (omega arith) in
+    let r = entries-run version s n (omega arith) in
+    let e = entry-run s (entryStart version n) (omega arith) in
     rw (bytes-append, r, append-nil, e, x, take-add, drop-drop)
 
 -- entry i of s
-pub entry-kept : (s : List ℕ) (n i : ℕ) → i < n → getD (entriesOf s n) i noEntry ≡ entryAt s (entryStart i)
+pub entry-kept : (version : ℕ) (s : List ℕ) (n i : ℕ) → i < n
+    → getD (entriesOf version s n) i noEntry ≡ entryAt s (entryStart version i)
 unfolding entriesOf
-entry-kept s zero i h = absurd (not-suc-le-zero h)
-entry-kept s (suc n) i h =
+entry-kept version s zero i h = absurd (not-suc-le-zero h)
+entry-kept version s (suc n) i h =
     ⊎-elim
-    (λ e. rw e (getD-at (entriesOf s n) (entryAt s (entryStart n)) [] noEntry n (entries-length s n)))
+    (λ e. rw e (getD-at (entriesOf version s n) (entryAt s (entryStart version n)) [] noEntry n (entries-length version s n)))
     (λ l.
-    let k : i < length (entriesOf s n) = rw (entries-length s n) l in
-    List·getD-append (entriesOf s n) (entryAt s (entryStart n) ∷ []) noEntry i k ∙ entry-kept s n i l)
+    let k : i < length (entriesOf version s n) = rw (entries-length version s n) l in
+    List·getD-append (entriesOf version s n) (entryAt s (entryStart version n) ∷ []) noEntry i k ∙ entry-kept version s n i l)
     (eq-or-lt-of-le (le-of-suc-le-suc h))
 
 -- what stands before is passed over
@@ -73,10 +75,11 @@ written-at (e ∷ es) (suc i) h =
     rw x (skip (entryBytes e) (entriesBytes es) (entryLength * i) ∙ written-at es i (le-of-suc-le-suc h))
 
 -- written entries behind a header are read again
-pub written-read : (h : List ℕ) (es : List Entry) (n : ℕ) → length h ≡ headerLength → n ≤ length es → entriesOf (h ++ entriesBytes es) n ≡ take n es
+pub written-read : (version : ℕ) (h : List ℕ) (es : List Entry) (n : ℕ) → length h ≡ headerLength version → n ≤ length es
+    → entriesOf version (h ++ entriesBytes es) n ≡ take n es
 unfolding entriesOf
-written-read h es zero l m = refl
-written-read h es (suc n) l m =
-    let r = written-read h es n l (omega arith) in
-    let x : entryStart n ≡ length h + entryLength * n = omega arith in
+written-read version h es zero l m = refl
+written-read version h es (suc n) l m =
+    let r = written-read version h es n l (omega arith) in
+    let x : entryStart version n ≡ length h + entryLength * n = omega arith in
     rw (r, x, skip, written-at es n m, take-suc es n noEntry)

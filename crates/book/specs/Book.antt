@@ -12,6 +12,7 @@ use Rattle.book.specs.declared.Book.{Book}
 abbrev pub mark : List ℕ
 mark = 84 ∷ 76 ∷ 66 ∷ []
 
+-- the only version of the book
 abbrev pub bookVersion : ℕ
 bookVersion = 1
 
@@ -21,10 +22,15 @@ originating = 0
 abbrev pub answering : ℕ
 answering = 1
 
--- the bytes before the entries, and those of one entry
-abbrev pub headerLength : ℕ
-headerLength = 10
+-- the bytes of the shortest header, which must be there before the version is looked at
+abbrev pub leastHeader : ℕ
+leastHeader = 10
 
+-- the bytes before the entries, by the book's version: 10 in the only one
+unfoldable pub headerLength : ℕ → ℕ
+headerLength version = leastHeader
+
+-- the bytes of one entry
 abbrev pub entryLength : ℕ
 entryLength = 7
 
@@ -48,13 +54,17 @@ limitAt = 7
 abbrev pub countAt : ℕ
 countAt = 9
 
--- where entry i starts; where n entries end
-abbrev pub entryStart : ℕ → ℕ
-entryStart i = headerLength + entryLength * i
+-- where entry i starts, by the book's version; where i entries end
+abbrev pub entryStart : ℕ → ℕ → ℕ
+entryStart version i = headerLength version + entryLength * i
 
 -- the 16-bit number at k
 abbrev pub wordAt : List ℕ → ℕ → ℕ
 wordAt s k = 256 * getD s k 0 + getD s (k + 1) 0
+
+-- the version that the bytes s are of
+unfoldable pub versionIn : List ℕ → ℕ
+versionIn s = wordAt s versionAt
 
 -- the entry whose seven bytes start at k
 abbrev pub entryAt : List ℕ → ℕ → Entry
@@ -68,36 +78,45 @@ entryAt s k = record {
   w = getD s (k + 6) 0;
 }
 
--- the first n entries of s
-unfoldable pub entriesOf : List ℕ → ℕ → List Entry
-entriesOf s zero = []
-entriesOf s (suc n) = entriesOf s n ++ (entryAt s (entryStart n) ∷ [])
+-- the first n entries of s, read as a book of that version
+unfoldable pub entriesOf : ℕ → List ℕ → ℕ → List Entry
+entriesOf version s zero = []
+entriesOf version s (suc n) = entriesOf version s n ++ (entryAt s (entryStart version n) ∷ [])
 
 -- what stands past the entries of a kept book
 abbrev pub noEntry : Entry
 noEntry = record { p0 = 0; p1 = 0; p2 = 0; p3 = 0; p4 = 0; form = 0; w = 0 }
 
--- the array that keeps the first n entries of s
-unfoldable pub keptEntries : List ℕ → ℕ → List Entry
-keptEntries s n = entriesOf s n ++ replicate (mostEntries - n) noEntry
+abbrev pub noEntries : List Entry
+noEntries = replicate mostEntries noEntry
 
--- the values of s with es for the array of entries
-abbrev pub bookWith : List ℕ → List Entry → Book
-bookWith s es = record {
-  role = getD s roleAt 0;
-  mask = getD s maskAt 0;
-  limit = wordAt s limitAt;
-  n = getD s countAt 0;
-  entries = es;
-}
+-- the array that keeps the first n entries of s, read as a book of that version
+unfoldable pub keptEntries : ℕ → List ℕ → ℕ → List Entry
+keptEntries version s n = entriesOf version s n ++ replicate (mostEntries - n) noEntry
+
+-- the kept book of these values and this array of entries
+abbrev pub bookWith : ℕ → ℕ → ℕ → ℕ → List Entry → Book
+bookWith role mask limit n es = record { role = role; mask = mask; limit = limit; n = n; entries = es }
+
+-- b with es for its array of entries
+abbrev pub withEntries : Book → List Entry → Book
+withEntries b es = bookWith (b .role) (b .mask) (b .limit) (b .n) es
+
+-- the values of s, with no entries yet
+abbrev pub headerOf : List ℕ → Book
+headerOf s = bookWith (getD s roleAt 0) (getD s maskAt 0) (wordAt s limitAt) (getD s countAt 0) noEntries
 
 -- the book that the bytes s say
 abbrev pub bookOf : List ℕ → Book
-bookOf s = bookWith s (keptEntries s (getD s countAt 0))
+bookOf s = withEntries (headerOf s) (keptEntries (versionIn s) s (getD s countAt 0))
+
+-- the version that a kept book was read from: the only one
+unfoldable pub versionOf : Book → ℕ
+versionOf b = bookVersion
 
 -- the book that stands beside a refusal: its number alone counts
 abbrev pub noBook : Book
-noBook = record { role = 0; mask = 0; limit = 0; n = 0; entries = replicate mostEntries noEntry }
+noBook = bookWith 0 0 0 0 noEntries
 
 -- The five parameters.
 
@@ -122,7 +141,7 @@ entriesBytes [] = []
 entriesBytes (e ∷ es) = entryBytes e ++ entriesBytes es
 
 abbrev pub headerBytes : Book → List ℕ
-headerBytes b = mark ++ wordBytes bookVersion ++ (b .role ∷ b .mask ∷ []) ++ wordBytes (b .limit) ++ (b .n ∷ [])
+headerBytes b = mark ++ wordBytes (versionOf b) ++ (b .role ∷ b .mask ∷ []) ++ wordBytes (b .limit) ++ (b .n ∷ [])
 
 -- the book's own bytes
 unfoldable pub bookBytes : Book → List ℕ

@@ -8,7 +8,7 @@ use Rattle.book.specs.declared.Book.{Book}
 use Rattle.book.specs.declared.Verdict.{Verdict}
 use Rattle.book.specs.declared.Verdict.the-variants.{Accepted, Refused}
 use Rattle.book.specs.declared.BookRead.{BookRead}
-use Rattle.book.specs.Book.{entryLength, entryStart, bookOf, noBook}
+use Rattle.book.specs.Book.{entryLength, entryStart, versionIn, bookOf, noBook}
 use Rattle.book.specs.Refusals.{bookNo}
 
 -- the number of each verdict: 0 for an accepted book
@@ -32,8 +32,8 @@ hasEntry s i = eqb (bookNo s) 0 && ltb i (bookOf s .n)
 
 -- the seven bytes of entry i, or an empty part
 unfoldable pub entryPart : List ℕ → ℕ → List ℕ
-entryPart s i = cond (hasEntry s i) (take entryLength (drop (entryStart i) s)) []
+entryPart s i = cond (hasEntry s i) (take entryLength (drop (entryStart (versionIn s) i) s)) []
 
 -- where in s that part starts: an empty part at 0
 unfoldable pub partAt : List ℕ → ℕ → ℕ
-partAt s i = cond (hasEntry s i) (entryStart i) 0
+partAt s i = cond (hasEntry s i) (entryStart (versionIn s) i) 0

@@ -6,7 +6,8 @@ use lib.ListN.{length, getD, take}
 use lib.Dec.{ltb, leb, eqb}
 use Rattle.book.specs.declared.Entry.{Entry}
 use Rattle.book.specs.declared.Book.{Book}
-use Rattle.book.specs.Book.{mark, bookVersion, originating, answering, headerLength, mostEntries, versionAt, entryStart, wordAt, bookOf, sameParams}
+use Rattle.book.specs.Book.{mark, bookVersion, originating, answering, leastHeader, mostEntries}
+use Rattle.book.specs.Book.{entryStart, versionIn, bookOf, sameParams}
 
 -- the first number, or the second where the first finds nothing wrong
 abbrev pub orElse : ℕ → ℕ → ℕ
@@ -23,9 +24,9 @@ isMark s =
 -- 1: fewer than 10 bytes. 2: mark. 3: book version not 1
 unfoldable pub startNo : List ℕ → ℕ
 startNo s =
-    cond (ltb (length s) headerLength) 1
+    cond (ltb (length s) leastHeader) 1
     (cond (not (isMark s)) 2
-    (cond (not (eqb (wordAt s versionAt) bookVersion)) 3
+    (cond (not (eqb (versionIn s) bookVersion)) 3
     0))
 
 abbrev pub isMask : ℕ → Bool
@@ -44,11 +45,11 @@ valuesNo b =
     (cond (wrongCount (b .role) (b .n)) 7
     0)))
 
--- of s with n entries. 1: fewer than 10+7n bytes. 11: bytes beyond 10+7n
-unfoldable pub lengthNo : List ℕ → ℕ → ℕ
-lengthNo s n =
-    cond (ltb (length s) (entryStart n)) 1
-    (cond (ltb (entryStart n) (length s)) 11
+-- of s, read as a book of that version with n entries. 1: fewer than 10+7n bytes. 11: bytes beyond 10+7n
+unfoldable pub lengthNo : ℕ → List ℕ → ℕ → ℕ
+lengthNo version s n =
+    cond (ltb (length s) (entryStart version n)) 1
+    (cond (ltb (entryStart version n) (length s)) 11
     0)
 
 abbrev pub isForm : ℕ → Bool
@@ -89,5 +90,5 @@ unfoldable pub bookNo : List ℕ → ℕ
 bookNo s =
     orElse (startNo s)
     (orElse (valuesNo (bookOf s))
-    (orElse (lengthNo s (bookOf s .n))
+    (orElse (lengthNo (versionIn s) s (bookOf s .n))
     (entriesNo (bookOf s))))

@@ -1,8 +1,8 @@
 // The bytes of a book: what stands where, and the checks of the bytes themselves.
 ghost use mathlib.Core.Path.{_≡_};
 ghost use Prim.Native.Nat.{_+_, _*_, _<_, _≤_};
-ghost use lib.ListN.{length, replicate};
-ghost use Rattle.book.specs.Book.{headerLength, entryLength, mostEntries, entryStart, entryAt, noEntry, keptEntries, bookWith};
+ghost use lib.ListN.{length};
+ghost use Rattle.book.specs.Book.{leastHeader, headerLength, entryLength, mostEntries, entryStart, versionIn, entryAt, keptEntries, headerOf};
 ghost use Rattle.book.specs.Refusals.{isMark, startNo, lengthNo};
 use super::Book;
 use super::Entry;
@@ -11,7 +11,8 @@ use super::NO_ENTRIES;
 
 const BOOK_VERSION: u16 = 1;
 
-const HEADER_LENGTH: usize = 10;
+// The bytes of the shortest header.
+const LEAST_HEADER: usize = 10;
 
 pub(crate) const ENTRY_LENGTH: usize = 7;
 
@@ -26,12 +27,6 @@ const LIMIT_AT: usize = 7;
 
 const COUNT_AT: usize = 9;
 
-pub(crate) fn wide(x: u8) -> usize
-    ensures { λ r. ⌜ (r ≡ x) × (r < 256) ⌝ }
-{
-    x as usize
-}
-
 // The 16-bit number of two bytes.
 fn word(high: u8, low: u8) -> u16
     ensures { λ r. ⌜ r ≡ 256 * high + low ⌝ }
@@ -40,41 +35,56 @@ fn word(high: u8, low: u8) -> u16
 }
 
 fn is_mark(s: &[u8]) -> bool
-    requires { ⌜ headerLength ≤ length (now s) ⌝ }
+    requires { ⌜ leastHeader ≤ length (now s) ⌝ }
     ensures { λ r. ⌜ r ≡ isMark (now (s .entry)) ⌝ }
 {
     (s[0] == b'T') & (s[1] == b'L') & (s[2] == b'B')
+}
+
+// The version that s is of.
+pub(crate) fn version_in(s: &[u8]) -> u16
+    requires { ⌜ leastHeader ≤ length (now s) ⌝ }
+    ensures { λ r. ⌜ r ≡ versionIn (now (s .entry)) ⌝ }
+{
+    word(s[VERSION_AT], s[VERSION_AT + 1])
 }
 
 // 1 for fewer than 10 bytes, 2 and 3.
 pub(crate) fn start_no(s: &[u8]) -> u8
     ensures { λ r. ⌜ r ≡ startNo (now (s .entry)) ⌝ }
 {
-    if s.len() < HEADER_LENGTH {
+    if s.len() < LEAST_HEADER {
         return 1;
     }
     if !is_mark(s) {
         return 2;
     }
-    if word(s[VERSION_AT], s[VERSION_AT + 1]) != BOOK_VERSION {
+    if version_in(s) != BOOK_VERSION {
         return 3;
     }
     0
 }
 
-// Where entry i starts, which is where i entries end.
-pub(crate) fn entry_start(i: usize) -> usize
-    requires { ⌜ i < 256 ⌝ }
-    ensures { λ r. ⌜ r ≡ entryStart i ⌝ }
+// The bytes before the entries, by the book's version: 10 in the only one.
+fn header_length(version: u16) -> usize
+    ensures { λ r. ⌜ (r ≡ headerLength version) × (r < 256) ⌝ }
 {
-    HEADER_LENGTH + ENTRY_LENGTH * i
+    LEAST_HEADER
+}
+
+// Where entry i starts, which is where i entries end.
+pub(crate) fn entry_start(version: u16, i: usize) -> usize
+    requires { ⌜ i < 256 ⌝ }
+    ensures { λ r. ⌜ (r ≡ entryStart version i) × (r < 2048) ⌝ }
+{
+    header_length(version) + ENTRY_LENGTH * i
 }
 
 // 1 for fewer than 10+7n bytes, and 11.
-pub(crate) fn length_no(s: &[u8], n: u8) -> u8
-    ensures { λ r. ⌜ r ≡ lengthNo (now (s .entry)) n ⌝ }
+pub(crate) fn length_no(version: u16, s: &[u8], n: u8) -> u8
+    ensures { λ r. ⌜ r ≡ lengthNo version (now (s .entry)) n ⌝ }
 {
-    let end = entry_start(wide(n));
+    let end = entry_start(version, n as usize);
     if s.len() < end {
         return 1;
     }
@@ -86,8 +96,8 @@ pub(crate) fn length_no(s: &[u8], n: u8) -> u8
 
 // The values of s, with no entries yet.
 pub(crate) fn header(s: &[u8]) -> Book
-    requires { ⌜ headerLength ≤ length (now s) ⌝ }
-    ensures { λ r. ⌜ r ≡ bookWith (now (s .entry)) (replicate mostEntries noEntry) ⌝ }
+    requires { ⌜ leastHeader ≤ length (now s) ⌝ }
+    ensures { λ r. ⌜ r ≡ headerOf (now (s .entry)) ⌝ }
 {
     let limit = word(s[LIMIT_AT], s[LIMIT_AT + 1]);
     Book {
@@ -116,14 +126,14 @@ fn entry_at(s: &[u8], k: usize) -> Entry
 }
 
 // The array that keeps the first n entries of s.
-pub(crate) fn load(s: &[u8], n: usize) -> [Entry; MOST_ENTRIES]
-    requires { ⌜ (n ≤ mostEntries) × (entryStart n ≤ length (now s)) ⌝ }
-    ensures { λ r. ⌜ r ≡ keptEntries (now (s .entry)) n ⌝ }
+pub(crate) fn load(version: u16, s: &[u8], n: usize) -> [Entry; MOST_ENTRIES]
+    requires { ⌜ (n ≤ mostEntries) × (entryStart version n ≤ length (now s)) ⌝ }
+    ensures { λ r. ⌜ r ≡ keptEntries version (now (s .entry)) n ⌝ }
 {
     let mut es = NO_ENTRIES;
     let mut i = 0;
     while i < n {
-        let e = entry_at(s, entry_start(i));
+        let e = entry_at(s, entry_start(version, i));
         es[i] = e;
         i += 1;
     }

@@ -12,7 +12,7 @@ pub const ORIGINATING: u8 = 0;
 
 pub const ANSWERING: u8 = 1;
 
-const MOST_ENTRIES: usize = 8;
+pub const MOST_ENTRIES: usize = 8;
 
 // One profile: five parameters, the form of data, and the word's width in form 0.
 pub struct Entry {
@@ -46,7 +46,7 @@ pub struct BookRead {
 }
 
 // What stands past the entries of a kept book.
-const NO_ENTRY: Entry = Entry {
+pub const NO_ENTRY: Entry = Entry {
     p0: 0,
     p1: 0,
     p2: 0,
@@ -100,12 +100,13 @@ pub fn read_book(s: &[u8]) -> BookRead
     if values != 0 {
         return refused(values);
     }
-    let length = bytes::length_no(s, book.n);
+    let version = bytes::version_in(s);
+    let length = bytes::length_no(version, s, book.n);
     if length != 0 {
         return refused(length);
     }
-    let n = bytes::wide(book.n);
-    let es = bytes::load(s, n);
+    let n = book.n as usize;
+    let es = bytes::load(version, s, n);
     let entries = checks::entries_no(es, n, book.mask);
     if entries != 0 {
         return refused(entries);
@@ -127,11 +128,11 @@ pub fn entry_part(s: &[u8], i: usize) -> &[u8]
     if number(verdict) != 0 {
         return &s[..0];
     }
-    let n = bytes::wide(answer.book.n);
+    let n = answer.book.n as usize;
     if n <= i {
         return &s[..0];
     }
-    let k = bytes::entry_start(i);
+    let k = bytes::entry_start(bytes::version_in(s), i);
     &s[k..k + bytes::ENTRY_LENGTH]
 }
 
@@ -143,7 +144,7 @@ pub fn book_ok(b: Book) -> bool
         return false;
     }
     let es = b.entries;
-    let n = bytes::wide(b.n);
+    let n = b.n as usize;
     if checks::entries_no(es, n, b.mask) != 0 {
         return false;
     }

@@ -44,6 +44,9 @@ pub record KindsAsRead : Type 0 where
   -- Sgvi and Sgp0 to Sgp4, B8 on and off
   pub awaited : map (λ b. saysKind (kindOf b)) (0x57 ∷ 0x07 ∷ 0x17 ∷ 0x27 ∷ 0x37 ∷ 0x47 ∷ 0x56 ∷ 0x06 ∷ 0x16 ∷ 0x26 ∷ 0x36 ∷ 0x46 ∷ [])
       ≡ (4 ∷ []) ∷ (5 ∷ []) ∷ (6 ∷ []) ∷ (7 ∷ []) ∷ (8 ∷ []) ∷ (9 ∷ []) ∷ (4 ∷ []) ∷ (5 ∷ []) ∷ (6 ∷ []) ∷ (7 ∷ []) ∷ (8 ∷ []) ∷ (9 ∷ []) ∷ []
+  -- Sgr, B8 on and off, and beside it Sgp4 and Sgss
+  pub sgr : map (λ b. saysKind (kindOf b)) (0x67 ∷ 0x66 ∷ 0x47 ∷ 0x46 ∷ 0x77 ∷ 0x76 ∷ [])
+      ≡ (10 ∷ []) ∷ (10 ∷ []) ∷ (9 ∷ []) ∷ (9 ∷ []) ∷ (0 ∷ []) ∷ (0 ∷ []) ∷ []
   -- DL and DH, the nibble's top bit in B1
   pub dl : map (λ b. saysKind (kindOf b)) (0x05 ∷ 0x15 ∷ 0x25 ∷ 0x45 ∷ 0x85 ∷ 0xF5 ∷ 0xA4 ∷ [])
       ≡ (1 ∷ 0 ∷ []) ∷ (1 ∷ 1 ∷ []) ∷ (1 ∷ 2 ∷ []) ∷ (1 ∷ 4 ∷ []) ∷ (1 ∷ 8 ∷ []) ∷ (1 ∷ 15 ∷ []) ∷ (1 ∷ 10 ∷ []) ∷ []
@@ -54,16 +57,16 @@ pub record KindsAsRead : Type 0 where
       ≡ (3 ∷ 0 ∷ 0 ∷ 0 ∷ 0 ∷ 0 ∷ []) ∷ (3 ∷ 0 ∷ 0 ∷ 0 ∷ 0 ∷ 0 ∷ []) ∷ (3 ∷ 1 ∷ 0 ∷ 0 ∷ 0 ∷ 0 ∷ []) ∷ (3 ∷ 0 ∷ 1 ∷ 0 ∷ 0 ∷ 0 ∷ [])
       ∷ (3 ∷ 0 ∷ 0 ∷ 1 ∷ 0 ∷ 0 ∷ []) ∷ (3 ∷ 0 ∷ 0 ∷ 0 ∷ 1 ∷ 0 ∷ []) ∷ (3 ∷ 0 ∷ 0 ∷ 0 ∷ 0 ∷ 1 ∷ []) ∷ (3 ∷ 1 ∷ 1 ∷ 1 ∷ 1 ∷ 1 ∷ [])
       ∷ (3 ∷ 1 ∷ 1 ∷ 1 ∷ 1 ∷ 1 ∷ []) ∷ []
-  -- Sgr, Sgss, Sgidle, Sgdis and unassigned bytes have no effect
-  pub others : map (λ b. saysKind (kindOf b)) (0x67 ∷ 0x77 ∷ 0x7F ∷ 0xFF ∷ 0x00 ∷ 0x08 ∷ 0x0F ∷ 0x87 ∷ 0xF7 ∷ [])
-      ≡ (0 ∷ []) ∷ (0 ∷ []) ∷ (0 ∷ []) ∷ (0 ∷ []) ∷ (0 ∷ []) ∷ (0 ∷ []) ∷ (0 ∷ []) ∷ (0 ∷ []) ∷ (0 ∷ []) ∷ []
-  -- the table's numbers of these
+  -- Sgss, Sgidle, Sgdis and unassigned bytes have no effect
+  pub others : map (λ b. saysKind (kindOf b)) (0x77 ∷ 0x76 ∷ 0x7F ∷ 0x7E ∷ 0xFF ∷ 0xFE ∷ 0x00 ∷ 0x08 ∷ 0x0F ∷ 0x87 ∷ 0xF7 ∷ [])
+      ≡ (0 ∷ []) ∷ (0 ∷ []) ∷ (0 ∷ []) ∷ (0 ∷ []) ∷ (0 ∷ []) ∷ (0 ∷ []) ∷ (0 ∷ []) ∷ (0 ∷ []) ∷ (0 ∷ []) ∷ (0 ∷ []) ∷ (0 ∷ []) ∷ []
+  -- the table's numbers of Sgr and of these
   pub numbers : map kindNumber (0x67 ∷ 0x66 ∷ 0x77 ∷ 0x76 ∷ 0x7F ∷ 0x7E ∷ 0xFF ∷ 0xFE ∷ 0x00 ∷ 0x08 ∷ 0x0F ∷ 0x87 ∷ 0xF7 ∷ [])
       ≡ 10 ∷ 10 ∷ 11 ∷ 11 ∷ 12 ∷ 12 ∷ 13 ∷ 13 ∷ 0 ∷ 0 ∷ 0 ∷ 0 ∷ 0 ∷ []
 
 pub kinds-as-read : KindsAsRead
 unfolding kindOf kindFrom kindNumber nibbleIn leadsIn val
-kinds-as-read = record { awaited = refl; dl = refl; dh = refl; sd = refl; others = refl; numbers = refl }
+kinds-as-read = record { awaited = refl; sgr = refl; dl = refl; dh = refl; sd = refl; others = refl; numbers = refl }
 
 pub record UnitsAsLaid : Type 0 where
   -- form 6, 0..63: B1..B6 = d5..d0, B7 0

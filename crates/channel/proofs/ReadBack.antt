@@ -9,10 +9,10 @@ use borrow.Author.Tests.{le-leb}
 use Rattle.ground.specs.Digits.{val}
 use Rattle.ground.proofs.Each.{each-eq}
 use Rattle.ground.proofs.EachBool.{every5, each5}
-use Rattle.channel.specs.Bytes.{laid, B, bitOf, signalling, sgvi, sgp, sdidle, sdByte, dlByte, dhByte}
+use Rattle.channel.specs.Bytes.{laid, B, bitOf, signalling, sgvi, sgp, sgr, sdidle, sdByte, dlByte, dhByte}
 use Rattle.channel.specs.Kinds.{kindNumber, nibbleIn, leadsIn, kindFrom, kindOf}
 use Rattle.channel.specs.declared.byte.Leads.{Leads}
-use Rattle.channel.specs.declared.kind.Kind.the-variants.{Sgvi, Sgp, Dl, Dh, Sd}
+use Rattle.channel.specs.declared.kind.Kind.the-variants.{Sgvi, Sgp, Sgr, Dl, Dh, Sd}
 
 -- each signalling code has the number that the table gives its byte
 pub signalling-read : (n : ℕ) → n < 14 → 4 ≤ n → kindNumber (signalling n) ≡ n
@@ -32,6 +32,10 @@ sgp-read (suc (suc zero)) h = refl
 sgp-read (suc (suc (suc zero))) h = refl
 sgp-read (suc (suc (suc (suc zero)))) h = refl
 sgp-read (suc (suc (suc (suc (suc k))))) h = absurd (omega arith)
+
+pub sgr-read : kindOf sgr ≡ Sgr
+unfolding kindOf kindFrom kindNumber
+sgr-read = refl
 
 dl-number : (v : ℕ) → v < 256 → kindNumber (dlByte v) ≡ 1
 unfolding kindNumber dlByte laid val

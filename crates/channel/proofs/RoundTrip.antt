@@ -6,11 +6,12 @@ use native.Mathlib.Nat.{mod-eq-of-lt}
 use native.Mathlib.Omega.{arith}
 use lib.Dec.{T, eqb, eqb→eq}
 use Rattle.ground.specs.Digits.{val}
+use Rattle.ground.specs.Lists.{isAmong}
 use Rattle.ground.proofs.Test.{and-left, and-right, same-flag, flag-true}
 use Rattle.ground.proofs.Each.{upTo, each}
 use Rattle.channel.specs.Bytes.{laid, dlByte, dhByte}
 use Rattle.channel.specs.Kinds.{kindOf}
-use Rattle.channel.specs.Forms.{unitsOf, unitByte, unitIn, isData, decoded, arrivesAs, sameBothWays, isAmong, wordOf}
+use Rattle.channel.specs.Forms.{unitsOf, unitByte, unitIn, isData, decoded, arrivesAs, sameBothWays, wordOf}
 use Rattle.channel.specs.declared.unit.Form.{Form}
 use Rattle.channel.specs.declared.unit.Form.the-variants.{Six, SevenV1, SevenV2, Eight}
 use Rattle.channel.specs.declared.unit.Decoded.the-variants.{Unit}

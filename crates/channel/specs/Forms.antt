@@ -1,6 +1,6 @@
 -- Forms of data: units on the channel. d0 is the least bit; B1 goes first. Assumes nothing.
 use mathlib.Core.Path.{_≡_}
-use mathlib.Core.Bool.{Bool, true, false, cond, _||_}
+use mathlib.Core.Bool.{Bool, true, cond}
 use mathlib.Core.List.{List, [], _∷_}
 use Prim.Native.Nat.{ℕ, _+_, _*_, _/_, _%_, _^_}
 use lib.Dec.{eqb, ltb}
@@ -61,10 +61,6 @@ arrivesAs Eight sent got = got ≡ sent
 -- the units whose seven bits read the same both ways: on these alone the versions of form 7 agree
 unfoldable pub sameBothWays : List ℕ
 sameBothWays = 0 ∷ 8 ∷ 20 ∷ 28 ∷ 34 ∷ 42 ∷ 54 ∷ 62 ∷ 65 ∷ 73 ∷ 85 ∷ 93 ∷ 99 ∷ 107 ∷ 119 ∷ 127 ∷ []
-
-abbrev pub isAmong : ℕ → List ℕ → Bool
-isAmong u [] = false
-isAmong u (x ∷ xs) = eqb u x || isAmong u xs
 
 -- form 0: a word of w bits, DL then DH, unused bits 0; the received value is taken modulo 2^w
 unfoldable pub wordFits : ℕ → ℕ → Bool

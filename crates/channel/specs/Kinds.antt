@@ -7,7 +7,7 @@ use Rattle.ground.specs.Digits.{val}
 use Rattle.channel.specs.Bytes.{B, bitOf, sgvi, sgp, sgr, sgss, sgidle, sgdis}
 use Rattle.channel.specs.declared.byte.Leads.{Leads}
 use Rattle.channel.specs.declared.kind.Kind.{Kind}
-use Rattle.channel.specs.declared.kind.Kind.the-variants.{Sgvi, Sgp, Dl, Dh, Sd, Other}
+use Rattle.channel.specs.declared.kind.Kind.the-variants.{Sgvi, Sgp, Sgr, Dl, Dh, Sd, Other}
 
 -- B8 is ignored on receipt: the byte is the code but for B8
 abbrev pub like : ℕ → ℕ → Bool
@@ -54,7 +54,8 @@ kindFrom n b =
     (cond (eqb n 2) (Dh (nibbleIn b))
     (cond (eqb n 3) (Sd (leadsIn b) (eqb (B 5 b) 1))
     (cond (eqb n 4) Sgvi
-    (cond (leb 5 n && leb n 9) (Sgp (n - 5)) Other))))
+    (cond (leb 5 n && leb n 9) (Sgp (n - 5))
+    (cond (eqb n 10) Sgr Other)))))
 
 unfoldable pub kindOf : ℕ → Kind
 kindOf b = kindFrom (kindNumber b) b
@@ -63,6 +64,7 @@ kindOf b = kindFrom (kindNumber b) b
 abbrev pub saysKind : Kind → List ℕ
 saysKind Sgvi = 4 ∷ []
 saysKind (Sgp k) = (5 + k) ∷ []
+saysKind Sgr = 10 ∷ []
 saysKind (Dl x) = 1 ∷ x ∷ []
 saysKind (Dh x) = 2 ∷ x ∷ []
 saysKind (Sd s bk) = 3 ∷ bitOf (s .s3) ∷ bitOf (s .s2) ∷ bitOf (s .s1) ∷ bitOf (s .s0) ∷ bitOf bk ∷ []
@@ -74,7 +76,7 @@ kindInNumbers b =
     cond (isDl b) (1 ∷ nibbleIn b ∷ [])
     (cond (isDh b) (2 ∷ nibbleIn b ∷ [])
     (cond (isSd b) (3 ∷ B 1 b ∷ B 2 b ∷ B 3 b ∷ B 4 b ∷ B 5 b ∷ [])
-    (cond (leb (kindNumber b) 9) (kindNumber b ∷ []) (0 ∷ []))))
+    (cond (leb (kindNumber b) 10) (kindNumber b ∷ []) (0 ∷ []))))
 
 -- how many of the 128 codes, counted without B8, the table gives the number k
 unfoldable pub howMany : ℕ → ℕ → ℕ

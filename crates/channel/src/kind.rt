@@ -10,12 +10,13 @@ pub enum Kind {
     Sgvi,
     // Sgp0 to Sgp4
     Sgp(u8),
+    Sgr,
     // a nibble
     Dl(u8),
     Dh(u8),
     // the leads and BK
     Sd(Leads, bool),
-    // Sgr, Sgss, Sgidle, Sgdis and unassigned bytes
+    // Sgss, Sgidle, Sgdis and unassigned bytes
     Other,
 }
 
@@ -59,9 +60,12 @@ impl ChannelByte {
         if n < 5 {
             return Kind::Other;
         }
-        if 9 < n {
-            return Kind::Other;
+        if n <= 9 {
+            return Kind::Sgp(n - 5);
         }
-        Kind::Sgp(n - 5)
+        if n == 10 {
+            return Kind::Sgr;
+        }
+        Kind::Other
     }
 }

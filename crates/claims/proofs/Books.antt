@@ -1,23 +1,25 @@
 -- Any bytes are answered as a book, and reading and writing one undo each other. Assumes nothing.
-use mathlib.Core.Path.{_≡_, refl, sym, ap, _∙_}
-use mathlib.Core.Bool.{Bool, true, false, cond, not, _&&_}
+use mathlib.Core.Path.{_≡_, refl, ap, _∙_}
+use mathlib.Core.Bool.{false, not, _&&_}
 use mathlib.Core.List.{List, [], _∷_, _++_}
 use Prim.Native.Nat.{ℕ, _≤_}
 use lib.Dec.{eqb, ltb, lit≤}
 use lib.ListN.{length}
-use borrow.Author.Tests.{ne-eqb, eqb-true}
+use borrow.Author.Tests.{ne-eqb}
 use Rattle.ground.proofs.Test.{either-way}
 use Rattle.book.specs.declared.Entry.{Entry}
 use Rattle.book.specs.declared.Book.{Book}
 use Rattle.book.specs.declared.BookRead.{BookRead}
-use Rattle.book.specs.Book.{bookVersion, answering, headerLength, versionAt, entryStart, wordAt, bookOf}
-use Rattle.book.specs.Refusals.{orElse, leastLimit, isMark, startNo, isMask, wrongCount, valuesNo, lengthNo, isForm, isWidth, isBarred, seenIn, entryNo, eachNo, entriesNo, bookNo}
-use Rattle.book.specs.Reading.{numberOf, accepts, refuses, readBook, hasEntry, entryPart}
+use Rattle.book.specs.Book.{bookVersion, answering, leastHeader, entryStart, versionIn, bookOf}
+use Rattle.book.specs.Refusals.{orElse, leastLimit, isMark, startNo, isMask, wrongCount, valuesNo, lengthNo, bookNo}
+use Rattle.book.specs.Refusals.{isForm, isWidth, isBarred, seenIn, entryNo, eachNo, entriesNo}
+use Rattle.book.specs.Reading.{numberOf, refuses, readBook, hasEntry, entryPart}
 use Rattle.book.specs.Kept.{bookOk}
+use Rattle.book.proofs.Reply.{read-number, read-accepted}
 use Rattle.book.proofs.RoundTrip.{read-passes, passes-read, read-written, part-is-entry}
 use Rattle.protocol.specs.Ranges.{wellFormed}
 use Rattle.protocol.specs.Slot.{started, startOf}
-use Rattle.protocol.proofs.StateKept.{started-kept}
+use Rattle.protocol.proofs.Kept.StateKept.{started-kept}
 use Rattle.claims.specs.Books.{lastNumber, BookAnswered, BooksUndone}
 
 -- Each check has one of the numbers.
@@ -28,9 +30,9 @@ Numbered n = n ≤ lastNumber
 start-numbered : (s : List ℕ) → Numbered (startNo s)
 unfolding startNo
 start-numbered s =
-    either-way Numbered (ltb (length s) headerLength) (lit≤ tt)
+    either-way Numbered (ltb (length s) leastHeader) (lit≤ tt)
     (either-way Numbered (not (isMark s)) (lit≤ tt)
-    (either-way Numbered (not (eqb (wordAt s versionAt) bookVersion)) (lit≤ tt) (lit≤ tt)))
+    (either-way Numbered (not (eqb (versionIn s) bookVersion)) (lit≤ tt) (lit≤ tt)))
 
 values-numbered : (b : Book) → Numbered (valuesNo b)
 unfolding valuesNo
@@ -40,10 +42,11 @@ values-numbered b =
     (either-way Numbered (ltb (b .limit) leastLimit) (lit≤ tt)
     (either-way Numbered (wrongCount (b .role) (b .n)) (lit≤ tt) (lit≤ tt))))
 
-length-numbered : (s : List ℕ) (n : ℕ) → Numbered (lengthNo s n)
+length-numbered : (version : ℕ) (s : List ℕ) (n : ℕ) → Numbered (lengthNo version s n)
 unfolding lengthNo
-length-numbered s n =
-    either-way Numbered (ltb (length s) (entryStart n)) (lit≤ tt) (either-way Numbered (ltb (entryStart n) (length s)) (lit≤ tt) (lit≤ tt))
+length-numbered version s n =
+    either-way Numbered (ltb (length s) (entryStart version n)) (lit≤ tt)
+    (either-way Numbered (ltb (entryStart version n) (length s)) (lit≤ tt) (lit≤ tt))
 
 entry-numbered : (mask : ℕ) (earlier : List Entry) (e : Entry) → Numbered (entryNo mask earlier e)
 unfolding entryNo
@@ -60,14 +63,16 @@ each-numbered : (mask : ℕ) (earlier es : List Entry) → Numbered (eachNo mask
 unfolding eachNo
 each-numbered mask earlier [] = lit≤ tt
 each-numbered mask earlier (e ∷ es) =
-    else-numbered (entryNo mask earlier e) (eachNo mask (earlier ++ (e ∷ [])) es) (entry-numbered mask earlier e) (each-numbered mask (earlier ++ (e ∷ [])) es)
+    else-numbered (entryNo mask earlier e) (eachNo mask (earlier ++ (e ∷ [])) es) (entry-numbered mask earlier e)
+    (each-numbered mask (earlier ++ (e ∷ [])) es)
 
 book-numbered : (s : List ℕ) → Numbered (bookNo s)
 unfolding bookNo entriesNo
 book-numbered s =
     else-numbered (startNo s) _ (start-numbered s)
     (else-numbered (valuesNo (bookOf s)) _ (values-numbered (bookOf s))
-    (else-numbered (lengthNo s (bookOf s .n)) _ (length-numbered s (bookOf s .n)) (each-numbered (bookOf s .mask) [] _)))
+    (else-numbered (lengthNo (versionIn s) s (bookOf s .n)) _ (length-numbered (versionIn s) s (bookOf s .n))
+    (each-numbered (bookOf s .mask) [] _)))
 
 -- A refused book, and an accepted one.
 
@@ -76,10 +81,6 @@ module _ (s : List ℕ) where
   unfolding readBook
   read-refused n = rw (ne-eqb (bookNo s) 0 n) refl
 
-  read-accepted : bookNo s ≡ 0 → readBook s ≡ accepts (bookOf s)
-  unfolding readBook
-  read-accepted e = rw e refl
-
   -- the book of zeros passes no check
   zeros-refused : (number : ℕ) → wellFormed (startOf (refuses number) .state) ≡ false
   unfolding startOf started wellFormed bookOk valuesNo
@@ -87,15 +88,11 @@ module _ (s : List ℕ) where
 
   starts-kept : bookNo s ≡ 0 → wellFormed (startOf (readBook s) .state) ≡ wellFormed (started (bookOf s))
   unfolding startOf
-  starts-kept e = ap (λ (r : BookRead). wellFormed (started (r .book))) (read-accepted e)
+  starts-kept e = ap (λ (r : BookRead). wellFormed (started (r .book))) (read-accepted s e)
 
   told-number : numberOf (startOf (readBook s) .verdict) ≡ bookNo s
-  unfolding startOf readBook
-  told-number = go (eqb (bookNo s) 0) refl
-    where
-      go : (x : Bool) → eqb (bookNo s) 0 ≡ x → numberOf (cond x (accepts (bookOf s)) (refuses (bookNo s)) .verdict) ≡ bookNo s
-      go true e = sym (eqb-true (bookNo s) 0 e)
-      go false e = refl
+  unfolding startOf
+  told-number = read-number s (readBook s) refl
 
   part-empty : (i : ℕ) → hasEntry s i ≡ false → entryPart s i ≡ []
   unfolding entryPart

@@ -1,5 +1,5 @@
--- The sentences of document 01 as figures: what the paper writes, in numbers, beside what the definitions give, on both sides of each line that
--- a sentence draws. The tables stand in the crates whose definitions they hold; here all of them are cited. Assumes nothing.
+-- The sentences of document 01 as figures: what the paper writes, in numbers, beside what the definitions give, on both sides of each line
+-- that a sentence draws. The tables stand in the crates whose definitions they hold; here all of them are cited. Assumes nothing.
 use mathlib.Core.Path.{_≡_}
 use mathlib.Core.Bool.{true, false}
 use mathlib.Core.List.{List, _++_}
@@ -8,18 +8,21 @@ use Prim.Native.Nat.{ℕ, _*_, _-_, _^_, _<_, _≤_}
 use lib.Dec.{eqb}
 use lib.ListN.{length, replicate}
 use Rattle.ground.specs.Digits.{allBelow}
-use Rattle.channel.specs.Bytes.{signalling, sgvi, sdidle, sdByte}
+use Rattle.ground.specs.Lists.{isAmong}
+use Rattle.channel.specs.Bytes.{signalling, sgvi, sgr, sdidle, sdByte}
 use Rattle.channel.specs.Kinds.{kindNumber, kindOf, howMany}
-use Rattle.channel.specs.Forms.{unitByte, sameBothWays, isAmong}
-use Rattle.channel.specs.declared.kind.Kind.the-variants.{Sgvi}
+use Rattle.channel.specs.Forms.{unitByte, sameBothWays}
+use Rattle.channel.specs.declared.kind.Kind.the-variants.{Sgvi, Sgr}
 use Rattle.channel.specs.declared.unit.Form.the-variants.{SevenV1, SevenV2}
-use Rattle.channel.proofs.Figures.{BytesAsListed, bytes-as-listed, KindsAsRead, kinds-as-read, UnitsAsLaid, units-as-laid, WordsAsLaid, words-as-laid, VersionsAsChosen, versions-as-chosen, VotesAsCounted, votes-as-counted}
+use Rattle.channel.proofs.Figures.{BytesAsListed, bytes-as-listed, KindsAsRead, kinds-as-read, UnitsAsLaid, units-as-laid}
+use Rattle.channel.proofs.Figures.{WordsAsLaid, words-as-laid, VersionsAsChosen, versions-as-chosen, VotesAsCounted, votes-as-counted}
 use Rattle.channel.proofs.KindTable.{kinds-counted, others-counted}
-use Rattle.channel.proofs.ReadBack.{signalling-read, sgvi-read, sdidle-is}
+use Rattle.channel.proofs.ReadBack.{signalling-read, sgvi-read, sgr-read, sdidle-is}
 use Rattle.channel.proofs.RoundTrip.{versions-agree}
 use Rattle.packing.specs.FormsOfData.{bitsOf, octetsIn, unpacked}
 use Rattle.packing.specs.NumbersOfRefusal.{unpackRefusal}
-use Rattle.packing.proofs.Figures.{PackedAsCounted, packed-as-counted, PackingRefused, packing-refused, WrittenAsPromised, written-as-promised}
+use Rattle.packing.proofs.Figures.{PackedAsCounted, packed-as-counted, PackingRefused, packing-refused}
+use Rattle.packing.proofs.Figures.{WrittenAsPromised, written-as-promised}
 use Rattle.packing.proofs.Trips.{bits-kept-back}
 use Rattle.book.specs.declared.Book.{Book}
 use Rattle.book.specs.Book.{entriesBytes, bookBytes}
@@ -32,11 +35,11 @@ use Rattle.text.proofs.Figures.{readFrom, Figures, figures, read-back}
 use Rattle.protocol.specs.Answers.{saysOutcome, saysReply}
 use Rattle.protocol.specs.declared.Outcome.{Outcome}
 use Rattle.protocol.specs.declared.Reply.{Reply}
-use Rattle.protocol.proofs.FiguresExchange.{ExchangeFigures, exchange-figures}
-use Rattle.protocol.proofs.FiguresOpen.{OpenFigures, open-figures}
-use Rattle.protocol.proofs.FiguresRefusals.{RefusalFigures, refusal-figures}
-use Rattle.protocol.proofs.FiguresAnswers.{AnswerFigures, answer-figures}
-use Rattle.protocol.proofs.Figures.{PairFigures, pair-figures}
+use Rattle.protocol.proofs.Figures.Exchanging.{ExchangeFigures, exchange-figures}
+use Rattle.protocol.proofs.Figures.Opening.{OpenFigures, open-figures}
+use Rattle.protocol.proofs.Figures.Refusing.{RefusalFigures, refusal-figures}
+use Rattle.protocol.proofs.Figures.Answering.{AnswerFigures, answer-figures}
+use Rattle.protocol.proofs.Figures.Joining.{PairFigures, pair-figures}
 use Rattle.endpoint.proofs.SaysAll.{outcome-says-all, reply-says-all}
 use Rattle.script.proofs.Samples.{ScriptFigures, script-figures}
 
@@ -54,6 +57,7 @@ pub record ChannelHeld : Type 0 where
   -- each signalling code is read as what it is, and Sdidle is the Sd with s2 alone on
   pub codes : (n : ℕ) → n < 14 → 4 ≤ n → kindNumber (signalling n) ≡ n
   pub hail : kindOf sgvi ≡ Sgvi
+  pub restart : kindOf sgr ≡ Sgr
   pub idle : sdByte (record { s0 = false; s1 = false; s2 = true; s3 = false }) false ≡ sdidle
   -- the versions of form 7 lay 16 units alike, and no other
   pub orders : (u : ℕ) → u < 128 → eqb (unitByte SevenV1 u) (unitByte SevenV2 u) ≡ isAmong u sameBothWays
@@ -71,6 +75,7 @@ channel-held =
       others = others-counted;
       codes = signalling-read;
       hail = sgvi-read;
+      restart = sgr-read;
       idle = sdidle-is;
       orders = versions-agree;
     }
@@ -90,7 +95,8 @@ pub record BookHeld : Type 0 where
   pub figures : BookFigures
   -- the check of a kept book is true exactly of the books that reading yields, and what such a book is written out as is bytes
   pub exactly : (b : Book) → (bookOk b ≡ true) ↔ ((s : List ℕ) × (readBook s ≡ accepts b))
-  pub bytes : (b : Book) → bookOk b ≡ true → b .limit < 2 ^ 16 → allBelow 256 (entriesBytes (b .entries)) ≡ true → allBelow 256 (bookBytes b) ≡ true
+  pub bytes : (b : Book) → bookOk b ≡ true → b .limit < 2 ^ 16 → allBelow 256 (entriesBytes (b .entries)) ≡ true
+      → allBelow 256 (bookBytes b) ≡ true
 
 book-held : BookHeld
 book-held = record { figures = book-figures; exactly = passes-exactly; bytes = written-bytes }

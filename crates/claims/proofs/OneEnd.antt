@@ -13,12 +13,12 @@ use Rattle.protocol.specs.declared.Endpoint.{Endpoint}
 use Rattle.protocol.specs.declared.Drive.{Drive}
 use Rattle.protocol.specs.declared.Reply.the-variants.{Passed}
 use Rattle.protocol.specs.declared.SlotAnswer.{SlotAnswer}
-use Rattle.protocol.proofs.SlotPasses.{slot-passes, slot-refused, reply-passes, step-refused}
-use Rattle.protocol.proofs.StateKept.{slot-kept, call-kept}
-use Rattle.protocol.proofs.ConcludedStays.{open-stays, refused-stays, refused-idles, refused-ignores}
-use Rattle.protocol.proofs.SlotReported.{opened-in, refused-in}
-use Rattle.protocol.proofs.EachVote.{no-other-value}
-use Rattle.protocol.proofs.CallDetermined.{call-determined, sent-determined, delivered-determined, taken-determined}
+use Rattle.protocol.proofs.Calls.SlotPasses.{slot-passes, slot-refused, reply-passes, step-refused}
+use Rattle.protocol.proofs.Kept.StateKept.{slot-kept, call-kept}
+use Rattle.protocol.proofs.Calls.ConcludedStays.{open-stays, refused-stays, refused-idles, refused-ignores}
+use Rattle.protocol.proofs.Calls.SlotReported.{opened-in, refused-in}
+use Rattle.protocol.proofs.Calls.EachVote.{no-other-value}
+use Rattle.protocol.proofs.Calls.CallDetermined.{call-determined, sent-determined, delivered-determined, taken-determined}
 use Rattle.claims.specs.OneEnd.{AnswersAll, NotPassed, CallHolds}
 
 pub answers-all : (e : Endpoint) (heard : ℕ) (g : Drive) → AnswersAll e heard g
@@ -34,7 +34,8 @@ answers-all e heard g =
 module _ (b : Book) (ok : bookOk b ≡ true) (heard : ℕ → ℕ) (given : ℕ → Drive) where
   slot-replies : (t : ℕ) → offerAllowed (endAt (started b) heard given t) (given t) (endAt (started b) heard given t .phase) ≡ true
       → slotOf (endAt (started b) heard given t) (heard t) (given t) .reply
-      ≡ Passed (byte (byteSent (sentAt (started b) heard given t))) (deliveredAt (started b) heard given t) (takenAt (started b) heard given t) (standsAt (started b) heard given (suc t))
+      ≡ Passed (byte (byteSent (sentAt (started b) heard given t))) (deliveredAt (started b) heard given t)
+      (takenAt (started b) heard given t) (standsAt (started b) heard given (suc t))
   unfolding endAt
   slot-replies t o = reply-passes (endAt (started b) heard given t) (heard t) (given t) (call-kept b ok heard given t) o
 

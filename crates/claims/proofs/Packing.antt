@@ -4,10 +4,11 @@ use mathlib.Core.Bool.{true, false}
 use mathlib.Core.List.{List, _∷_}
 use Prim.Native.Nat.{ℕ}
 use lib.ListN.{length}
+use Rattle.ground.specs.Lists.{isAmong}
 use Rattle.ground.proofs.Test.{either-way}
-use Rattle.channel.specs.Forms.{isAmong}
 use Rattle.packing.specs.FormsOfData.{unitsFor, octetsIn, packed, unpacked}
-use Rattle.packing.specs.NumbersOfRefusal.{numberOf, notPacked, outOfRange, notWhole, noRoom, packRefusal, unpackRefusal, putFrom, Answer, Packs, Unpacks}
+use Rattle.packing.specs.NumbersOfRefusal.{numberOf, notPacked, outOfRange, notWhole, noRoom, packRefusal, unpackRefusal}
+use Rattle.packing.specs.NumbersOfRefusal.{putFrom, Answer, Packs, Unpacks}
 use Rattle.packing.specs.declared.Reply.{Reply}
 use Rattle.packing.specs.declared.Reply.the-variants.{Wrote, FormNotPacked, UnitOutOfRange, NotWholeOctets, NoRoom}
 use Rattle.packing.proofs.OneReply.{one-answer}
@@ -45,7 +46,8 @@ unfolding packRefusal
 pack-answered k s out at =
     let xs = packed k s in
     either-way (Has packNumbers xs out at) (notPacked k) (refused-15 packNumbers xs out at refl)
-    (either-way (Has packNumbers xs out at) (noRoom (unitsFor k (length s)) (length out) at) (refused-14 packNumbers xs out at refl) (wrote packNumbers xs out at))
+    (either-way (Has packNumbers xs out at) (noRoom (unitsFor k (length s)) (length out) at) (refused-14 packNumbers xs out at refl)
+    (wrote packNumbers xs out at))
 
 pub unpack-answered : (k : ℕ) (us out : List ℕ) (at : ℕ) → Answers unpackNumbers out (Unpacks k us out at)
 unfolding unpackRefusal
@@ -54,7 +56,8 @@ unpack-answered k us out at =
     either-way (Has unpackNumbers xs out at) (notPacked k) (refused-15 unpackNumbers xs out at refl)
     (either-way (Has unpackNumbers xs out at) (outOfRange k us) (refused-12 unpackNumbers xs out at refl)
     (either-way (Has unpackNumbers xs out at) (notWhole k us) (refused-16 unpackNumbers xs out at refl)
-    (either-way (Has unpackNumbers xs out at) (noRoom (octetsIn k (length us)) (length out) at) (refused-14 unpackNumbers xs out at refl) (wrote unpackNumbers xs out at))))
+    (either-way (Has unpackNumbers xs out at) (noRoom (octetsIn k (length us)) (length out) at) (refused-14 unpackNumbers xs out at refl)
+    (wrote unpackNumbers xs out at))))
 
 pub packing-undone : (k : ℕ) → notPacked k ≡ false → PackingUndone k
 packing-undone k form =

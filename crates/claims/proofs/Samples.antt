@@ -13,6 +13,6 @@ use Rattle.claims.specs.Samples.{Sample, samples}
 
 pub samples-hold : map (λ (s : Sample). s .defined) samples ≡ map (λ (s : Sample). s .written) samples
 unfolding
-    samples val digits allBelow laid dlByte dhByte kindNumber leadsIn kindFrom kindOf fits unitByte encoded wordFits encodedWord highestUpTo highest
-    shared majorities voted bitsOf grouped unitsFor octetsIn packed leftOver someOne unpackRefusal
+    samples val digits allBelow laid dlByte dhByte kindNumber leadsIn kindFrom kindOf fits unitByte encoded wordFits encodedWord
+    highestUpTo highest shared majorities voted bitsOf grouped unitsFor octetsIn packed leftOver someOne unpackRefusal
 samples-hold = refl

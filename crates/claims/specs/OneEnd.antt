@@ -61,19 +61,23 @@ pub record CallHolds (b : Book) (heard : ℕ → ℕ) (given : ℕ → Drive) : 
   -- a slot passes unless 12 refuses its offer, and its reply is what the slot sends, delivers and takes and where the end then stands
   pub replies : (t : ℕ) → offerAllowed (endAt (started b) heard given t) (given t) (endAt (started b) heard given t .phase) ≡ true
       → slotOf (endAt (started b) heard given t) (heard t) (given t) .reply
-      ≡ Passed (byte (byteSent (sentAt (started b) heard given t))) (deliveredAt (started b) heard given t) (takenAt (started b) heard given t) (standsAt (started b) heard given (suc t))
+      ≡ Passed (byte (byteSent (sentAt (started b) heard given t))) (deliveredAt (started b) heard given t)
+      (takenAt (started b) heard given t) (standsAt (started b) heard given (suc t))
   -- one that 12 refuses has not passed: nothing is sent, delivered or taken in it, and the end is as it was
   pub notPassed : (t : ℕ) → offerAllowed (endAt (started b) heard given t) (given t) (endAt (started b) heard given t .phase) ≡ false
       → NotPassed (started b) heard given t
   -- the slot of opening and of refusing is the count of slots since the start
-  pub openedIn : (t version slot : ℕ) (profile : Entry) (signals : Signals) → standsAt (started b) heard given t ≡ Open version profile slot signals
+  pub openedIn : (t version slot : ℕ) (profile : Entry) (signals : Signals)
+      → standsAt (started b) heard given t ≡ Open version profile slot signals
       → LeavesIn (started b) heard given slot
   pub refusedIn : (t number slot : ℕ) → standsAt (started b) heard given t ≡ Refused number slot → LeavesIn (started b) heard given slot
   -- what has concluded stays so
   pub concluded : (t u : ℕ) → t ≤ u → StaysConcluded (started b) heard given t u
   -- a value that is voted is the majority of six bytes that came one after the other: no copy of a dropped group counts
   pub voted : (u : ℕ)
-      → (endAt (started b) heard given (suc u) .values ≡ endAt (started b) heard given u .values) ⊎ ((item : ℕ) × Votes (started b) heard given u item)
+      → (endAt (started b) heard given (suc u) .values ≡ endAt (started b) heard given u .values)
+      ⊎ ((item : ℕ) × Votes (started b) heard given u item)
   -- what a slot of the call does depends on its book and on what the call has heard and been given up to that slot, and on nothing else
-  pub determined : (heard′ : ℕ → ℕ) (given′ : ℕ → Drive) (t : ℕ) → ((i : ℕ) → i ≤ t → heard i ≡ heard′ i) → ((i : ℕ) → i ≤ t → given i ≡ given′ i)
+  pub determined : (heard′ : ℕ → ℕ) (given′ : ℕ → Drive) (t : ℕ)
+      → ((i : ℕ) → i ≤ t → heard i ≡ heard′ i) → ((i : ℕ) → i ≤ t → given i ≡ given′ i)
       → SameSlot (started b) heard heard′ given given′ t

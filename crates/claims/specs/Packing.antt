@@ -5,7 +5,7 @@ use mathlib.Core.List.{List, [], _∷_}
 use Prim.Native.Nat.{ℕ}
 use lib.ListN.{length}
 use Rattle.ground.specs.Digits.{allBelow}
-use Rattle.channel.specs.Forms.{isAmong}
+use Rattle.ground.specs.Lists.{isAmong}
 use Rattle.packing.specs.FormsOfData.{packed, unpacked}
 use Rattle.packing.specs.NumbersOfRefusal.{numberOf, roomRefusal, unpackRefusal}
 use Rattle.packing.specs.declared.Reply.{Reply}

@@ -1,5 +1,3 @@
-pub mod AllBelow
-pub mod HighNibble
 pub mod Clock
 pub mod Steps
 pub mod Says

@@ -1,2 +1,1 @@
-pub mod PhaseParts
 pub mod StepMade

@@ -1,4 +1,3 @@
 // One end of a call.
-mod ranges;
 pub mod slot;
 pub mod start;

@@ -1,9 +1,9 @@
 // One slot of one end, and where the end stands.
-use crate::ranges::phase_in;
 use book::Book;
 use book::book_ok;
 use channel::byte::ChannelByte;
-use exchange::kept_book::entry_of;
+use collecting::hearing::NO_NIBBLES;
+use collecting::kept_book::entry_of;
 use exchange::turn::first_exchange;
 use exchange::turn::turn;
 use opened::line::fresh_line;
@@ -25,14 +25,13 @@ use protocol::Phase;
 use protocol::Reply;
 use protocol::Sending;
 use protocol::SlotAnswer;
+use ranges::phase_in;
 ghost use mathlib.Core.Path.{_≡_};
 ghost use Rattle.protocol.specs.Ranges.{wellFormed};
-ghost use Rattle.protocol.specs.Slot.{exchangeIn, exchanging, concluded, started, clocked, opens, opensHearing, exchangeStep, openAt, openStep, stepOf, offerFits, offerAllowed, outcomeAt, outcomeOf, refuses, slotOf};
+ghost use Rattle.protocol.specs.Slot.{exchangeOf, exchanging, concluded, started, clocked, opens, opensHearing, exchangeStep, openAt, openStep, stepOf, offerFits, offerAllowed, outcomeAt, outcomeOf, refuses, slotOf};
 ghost use Rattle.protocol.specs.Answers.{saysOutcome, standsIn, saysReply, slotSays};
 ghost use Rattle.protocol.specs.declared.Phase.the-variants.{Open};
 ghost use Rattle.endpoint.specs.StepMade.{stepMade, quietStep, passedBy};
-
-const NO_NIBBLES: [u8; 6] = [0; 6];
 
 // What a slot brings: the state, the byte sent, what is delivered, and whether the offered unit is taken.
 pub(crate) struct StepMade {
@@ -44,7 +43,7 @@ pub(crate) struct StepMade {
 
 // An end in the exchange, with its state but for the clock.
 fn exchange_of(e: Endpoint, version: u8, awaited: Awaited, sending: Sending) -> Exchange
-    ensures { λ r. ⌜ r ≡ exchangeIn e version awaited sending ⌝ }
+    ensures { λ r. ⌜ r ≡ exchangeOf e version awaited sending ⌝ }
 {
     let nibbles = e.nibbles;
     let values = e.values;

@@ -46,7 +46,7 @@ module _ (b : Book) (y : Exchange) (s : Sending) {o : Bool} (e : o ≡ originate
       sent-waits v = rw (← e, w, ← u, n, ← a, v)
 
   module _ {t : Bool} (a : t ≡ lastOfAll b s) (w : o ≡ false) where
-    pub sent-opens : {r : Fate} {m : Match} → t ≡ true → m ≡ matched b (y .hearing) → r ≡ opensOn m → r ≡ fateSent b y s
+    pub sent-opens : {r : Fate} {m : Match} → t ≡ true → m ≡ matched b (y .version) (y .hearing) → r ≡ opensOn m → r ≡ fateSent b y s
     unfolding fateSent
     sent-opens v p q = rw (← e, w, ← a, v, ← p, q)
 

@@ -1,10 +1,5 @@
-pub mod PastEnd
-pub mod DueBytes
-pub mod InGroup
-pub mod OtherKinds
-pub mod EightBits
 pub mod OtherParams
-pub mod Matching
+pub mod MatchedOn
 pub mod Settled
 pub mod Hails
 pub mod LastSgp

@@ -10,19 +10,19 @@ use Rattle.channel.specs.Bytes.{byte, sgp}
 use Rattle.protocol.specs.Lengths.{parameterLead, parameterBytes}
 use Rattle.protocol.specs.Sent.{groupByte, byteSent, parameterSent}
 
-module _ (b : Book) (values : List ℕ) (i : ℕ) {at length lead l : ℕ} {r : ChannelByte} (a : at ≡ i) (n : length ≡ parameterBytes b)
-    (w : lead ≡ l) (m : l ≡ parameterLead b) where
-  pub lead-laid : at % length < lead → r ≡ byte (sgp (at / length)) → r ≡ byte (byteSent (parameterSent b values i))
+module _ (b : Book) (values : List ℕ) (i : ℕ) {length lead : ℕ} {r : ChannelByte} (n : length ≡ parameterBytes b)
+    (m : lead ≡ parameterLead b) where
+  pub lead-laid : i % length < lead → r ≡ byte (sgp (i / length)) → r ≡ byte (byteSent (parameterSent b values i))
   unfolding byteSent parameterSent
   lead-laid h q =
-      rw (q, a, n)
-      (let t : i % parameterBytes b < parameterLead b = rw (← n, ← m, ← w, ← a) h in rw (lt-ltb (i % parameterBytes b) (parameterLead b) t))
+      rw (q, n)
+      (let t : i % parameterBytes b < parameterLead b = rw (← n, ← m) h in rw (lt-ltb (i % parameterBytes b) (parameterLead b) t))
 
-  pub group-laid : {v : ℕ} → lead ≤ at % length → v ≡ getD values (at / length) 0 → r ≡ byte (groupByte (at % length - lead) v)
+  pub group-laid : {v : ℕ} → lead ≤ i % length → v ≡ getD values (i / length) 0 → r ≡ byte (groupByte (i % length - lead) v)
       → r ≡ byte (byteSent (parameterSent b values i))
   unfolding byteSent parameterSent
   group-laid h u q =
-      rw (q, u, a, n, w, m)
-      (let t : parameterLead b ≤ i % parameterBytes b = rw (← n, ← m, ← w, ← a) h in rw (le-ltb (i % parameterBytes b) (parameterLead b) t))
+      rw (q, u, n, m)
+      (let t : parameterLead b ≤ i % parameterBytes b = rw (← n, ← m) h in rw (le-ltb (i % parameterBytes b) (parameterLead b) t))
 
 pub ruleset parameter-laid = (lead-laid, group-laid)

@@ -4,3 +4,4 @@ pub mod Each
 pub mod EachBool
 pub mod Table
 pub mod Lists
+pub mod PastEnd

@@ -7,7 +7,7 @@ use lib.Dec.{eqb}
 use Rattle.channel.specs.Kinds.{kindOf}
 use Rattle.channel.specs.Forms.{unitIn, isData, wordOf}
 use Rattle.channel.specs.declared.kind.Kind.{Kind}
-use Rattle.channel.specs.declared.kind.Kind.the-variants.{Sgvi, Sgp, Dl, Dh, Sd, Other}
+use Rattle.channel.specs.declared.kind.Kind.the-variants.{Sgvi, Sgp, Sgr, Dl, Dh, Sd, Other}
 use Rattle.channel.specs.declared.unit.Form.{Form}
 use Rattle.channel.specs.declared.unit.Form.the-variants.{Six, SevenV1, SevenV2, Eight}
 use Rattle.protocol.specs.Answers.{saysDelivered, wordIn, deliversOf}
@@ -46,6 +46,7 @@ module _ (i : Inbound) where
   word w (Sd s bk) = none (i .standing .bk)
   word w Sgvi = none (i .standing .bk)
   word w (Sgp k) = none (i .standing .bk)
+  word w Sgr = none (i .standing .bk)
   word w Other = none (i .standing .bk)
 
   six : (u : ℕ) (t : Bool) (k : Kind) → says (cond t (reads i Empty 0 (delivered.Unit u)) (readsIdle i k)) ≡ cond t (u ∷ []) []
@@ -55,6 +56,7 @@ module _ (i : Inbound) where
   six u false (Sd s bk) = refl
   six u false Sgvi = refl
   six u false (Sgp j) = refl
+  six u false Sgr = refl
   six u false Other = refl
 
   stream : (u : ℕ) (t : Bool) (k : Kind) → says (cond t (reads i Empty 2 (delivered.Unit u)) (readsPair i k)) ≡ cond t (u ∷ []) []
@@ -64,6 +66,7 @@ module _ (i : Inbound) where
   stream u false (Sd s bk) = refl
   stream u false Sgvi = refl
   stream u false (Sgp j) = refl
+  stream u false Sgr = refl
   stream u false Other = refl
 
   unit : (f : Form) (b : ℕ) → says (readsForm f i b) ≡ deliversOf (shape.Unit f) i b

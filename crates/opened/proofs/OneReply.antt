@@ -7,6 +7,8 @@ use Rattle.opened.proofs.shape.is_word.Reads as is-word
 use Rattle.opened.proofs.shape.has_pair.Reads as has-pair
 use Rattle.opened.proofs.shape.opening_bytes.Reads as opening-bytes
 use Rattle.opened.proofs.line.fresh_line.Reads as fresh-line
+use Rattle.opened.proofs.drive.drive_with.Reads as drive-with
+use Rattle.opened.proofs.drive.idle.Reads as idle
 use Rattle.opened.proofs.reading.reading.Reads as reading
 use Rattle.opened.proofs.writing.writing.Reads as writing
 
@@ -27,6 +29,12 @@ opening-bytes-one a r s x y p q = one-reply _ (p .0) (q .0)
 
 pub fresh-line-one : (a : _) (r s : _) (x y : _) → fresh-line.Post tt a r x → fresh-line.Post tt a s y → r ≡ s
 fresh-line-one a r s x y p q = one-reply _ p q
+
+pub drive-with-one : (a : _) (r s : _) (x y : _) → drive-with.Post tt a r x → drive-with.Post tt a s y → r ≡ s
+drive-with-one a r s x y p q = one-reply _ p q
+
+pub idle-one : (a : _) (r s : _) (x y : _) → idle.Post tt a r x → idle.Post tt a s y → r ≡ s
+idle-one a r s x y p q = one-reply _ p q
 
 pub reading-one : (a : _) (r s : _) (x y : _) → reading.Post tt a r x → reading.Post tt a s y → r ≡ s
 reading-one a r s x y p q = one-reply _ (p .0) (q .0)

@@ -5,7 +5,7 @@ use Prim.Native.Nat.{ℕ}
 use Rattle.channel.specs.declared.byte.ChannelByte.{ChannelByte}
 use Rattle.channel.specs.Bytes.{byte}
 use Rattle.protocol.specs.Sent.{byteSent}
-use Rattle.protocol.specs.Opened.{Reading, Writing}
+use Rattle.protocol.specs.Opened.{Reading, Writing, outboundOf}
 use Rattle.protocol.specs.declared.Half.{Half}
 use Rattle.protocol.specs.declared.Outbound.{Outbound}
 use Rattle.opened.specs.declared.reading.ReadingMade.{ReadingMade}
@@ -20,4 +20,4 @@ writingMade w = record { outbound = w .outbound; sent = byte (byteSent (w .sent)
 -- a byte that is no Sd leaves BK of the last two Sd as it stands
 abbrev pub sendingByte : Outbound → ℕ → Half → ChannelByte → Bool → WritingMade
 sendingByte o opening due sent taken =
-    record { outbound = record { opening = opening; due = due; bk1 = o .bk1; bk2 = o .bk2 }; sent = sent; taken = taken }
+    record { outbound = outboundOf opening due (o .bk1) (o .bk2); sent = sent; taken = taken }

@@ -1,4 +1,5 @@
 // What an open end reads and delivers.
+use crate::line::inbound_of;
 use crate::shape::pair_form;
 use channel::byte::ChannelByte;
 use channel::byte::Leads;
@@ -49,12 +50,7 @@ fn reads(i: Inbound, half: Half, pair: u8, delivered: Delivered) -> ReadingMade
 {
     let last = i.last;
     let standing = i.standing;
-    let inbound = Inbound {
-        half,
-        pair,
-        last,
-        standing,
-    };
+    let inbound = inbound_of(half, pair, last, standing);
     ReadingMade { inbound, delivered }
 }
 
@@ -63,15 +59,8 @@ fn reads_sd(i: Inbound, leads: Leads, bk: bool) -> ReadingMade
     ensures { λ r. ⌜ r ≡ readingMade (readsSd i leads bk) ⌝ }
 {
     let now = Signals { leads, bk };
-    let half = Half::Empty;
-    let pair = 0;
     let agreed = agreed_signals(i.last, now, i.standing);
-    let inbound = Inbound {
-        half,
-        pair,
-        last: now,
-        standing: agreed,
-    };
+    let inbound = inbound_of(Half::Empty, 0, now, agreed);
     ReadingMade {
         inbound,
         delivered: Delivered::Nothing,
@@ -143,9 +132,7 @@ fn reads_word(w: u8, i: Inbound, k: Kind) -> ReadingMade
         Kind::Dl(x) => reads_low(i, x),
         Kind::Dh(x) => reads_high(w, i, x),
         Kind::Sd(leads, bk) => reads_sd(i, leads, bk),
-        Kind::Sgvi => quiet(i),
-        Kind::Sgp(_) => quiet(i),
-        Kind::Other => quiet(i),
+        _ => quiet(i),
     }
 }
 
@@ -155,11 +142,7 @@ fn reads_idle(i: Inbound, k: Kind) -> ReadingMade
 {
     match k {
         Kind::Sd(leads, bk) => reads_sd(i, leads, bk),
-        Kind::Dl(_) => quiet(i),
-        Kind::Dh(_) => quiet(i),
-        Kind::Sgvi => quiet(i),
-        Kind::Sgp(_) => quiet(i),
-        Kind::Other => quiet(i),
+        _ => quiet(i),
     }
 }
 
@@ -193,9 +176,7 @@ fn reads_pair(i: Inbound, k: Kind) -> ReadingMade
         Kind::Dl(x) => seeks(i, pair_begun(x)),
         Kind::Dh(x) => seeks(i, pair_ended(x, i.pair)),
         Kind::Sd(leads, bk) => reads_sd(i, leads, bk),
-        Kind::Sgvi => quiet(i),
-        Kind::Sgp(_) => quiet(i),
-        Kind::Other => quiet(i),
+        _ => quiet(i),
     }
 }
 

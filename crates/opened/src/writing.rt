@@ -1,4 +1,5 @@
 // What an open end takes and sends.
+use crate::line::outbound_of;
 use crate::shape::OPENING_SD;
 use crate::shape::is_word;
 use crate::shape::opening_bytes;
@@ -39,12 +40,7 @@ fn writes_sd(s: Shape, o: Outbound, opening: u8, g: Drive) -> WritingMade
 {
     let bk = bk_sent(s, g);
     let sent = ChannelByte::sd(g.leads, bk);
-    let outbound = Outbound {
-        opening,
-        due: Half::Empty,
-        bk1: bk,
-        bk2: o.bk1,
-    };
+    let outbound = outbound_of(opening, Half::Empty, bk, o.bk1);
     WritingMade {
         outbound,
         sent,
@@ -56,12 +52,7 @@ fn writes_sd(s: Shape, o: Outbound, opening: u8, g: Drive) -> WritingMade
 fn writes(o: Outbound, opening: u8, due: Half, sent: ChannelByte, taken: bool) -> WritingMade
     ensures { λ r. ⌜ r ≡ sendingByte o opening due sent taken ⌝ }
 {
-    let outbound = Outbound {
-        opening,
-        due,
-        bk1: o.bk1,
-        bk2: o.bk2,
-    };
+    let outbound = outbound_of(opening, due, o.bk1, o.bk2);
     WritingMade {
         outbound,
         sent,

@@ -51,7 +51,7 @@ pub fn unpack(form: u8, units: &[u8], out: &mut [u8], at: usize) -> Reply
     write(units, k, 8, n, out, at)
 }
 
-fn wide(x: u8) -> usize
+fn as_usize(x: u8) -> usize
     ensures { λ r. ⌜ r ≡ x ⌝ }
 {
     x as usize
@@ -88,7 +88,7 @@ fn out_of_range(units: &[u8], k: usize) -> bool
     let limit: usize = 1 << k;
     let mut i: usize = 0;
     while i < units.len() {
-        if limit <= wide(units[i]) {
+        if limit <= as_usize(units[i]) {
             return true;
         }
         i = i + 1;
@@ -113,7 +113,7 @@ fn not_whole(units: &[u8], k: usize) -> bool
     }
     // the bits left over are the highest ones of the last unit
     let spare = k * (u % 8) % 8;
-    let last = wide(units[u - 1]);
+    let last = as_usize(units[u - 1]);
     let lowest: usize = 1 << (k - spare);
     lowest <= last
 }
@@ -137,7 +137,7 @@ fn regroup(src: &[u8], a: usize, b: usize, dst: &mut [u8])
             have = have - b;
             j = j + 1;
         } else if i < src.len() {
-            acc = acc + (wide(src[i]) << have);
+            acc = acc + (as_usize(src[i]) << have);
             have = have + a;
             i = i + 1;
         } else {

@@ -2,7 +2,7 @@
 use mathlib.Core.Path.{_≡_, refl, sym, ap, ap₂, _∙_}
 use mathlib.Core.Bool.{Bool, true, false, cond}
 use mathlib.Core.Logic.{_⊎_, inl, inr}
-use Prim.Native.Nat.{ℕ, zero, suc, _+_, _*_, _≤_, _<_, max}
+use Prim.Native.Nat.{ℕ, zero, suc, _+_, _≤_, _<_, max}
 use native.Mathlib.Nat.{le-max-left, le-max-right}
 use native.Mathlib.Omega.{arith}
 use lib.Dec.{ltb}
@@ -10,21 +10,22 @@ use borrow.Author.Tests.{ltb-true, ltb-false}
 use Rattle.ground.proofs.Test.{both-left, both-right}
 use Rattle.book.specs.declared.Book.{Book}
 use Rattle.book.specs.Kept.{bookOk}
+use Rattle.protocol.specs.Schedule.{meets, lacksO, lacksA, concludesO, concludesA}
 use Rattle.protocol.specs.Slot.{started, outcomeOf}
 use Rattle.protocol.specs.Call.{standsAt}
-use Rattle.protocol.specs.Pair.{MayJoin, JoinedPair, Concludes as ConcludesIn, BothRefuse}
+use Rattle.protocol.specs.Pair.{MayJoin, JoinedPair, Concludes, BothRefuse}
 use Rattle.protocol.specs.Joined.{Joined, idle, joinedSlot}
 use Rattle.protocol.specs.Undamaged.{joinedAt, hearsO, hearsA}
 use Rattle.protocol.specs.declared.Drive.{Drive}
 use Rattle.protocol.specs.declared.Outcome.{Outcome}
 use Rattle.protocol.specs.declared.Outcome.the-variants.{Exchanging, Open, Refused}
-use Rattle.protocol.proofs.UndamagedCalls.{end-o, end-a}
-use Rattle.protocol.proofs.EndsByLimit.{ends-by-limit}
-use Rattle.protocol.proofs.PairExists.{pair-exists}
-use Rattle.protocol.proofs.PairConcludes.{no-version, both-open, no-profile}
-use Rattle.pair.specs.Running.{concluded, bothConcluded, ranFor}
+use Rattle.protocol.proofs.Existence.UndamagedCalls.{end-o, end-a}
+use Rattle.protocol.proofs.Calls.EndsByLimit.{ends-by-limit}
+use Rattle.protocol.proofs.Existence.PairExists.{pair-exists}
+use Rattle.protocol.proofs.Chain.PairConcludes.{no-version, both-open, no-profile}
+use Rattle.pair.specs.Running.{hasConcluded, bothConcluded, ranFor}
 use Rattle.pair.specs.Join.{ranOf, standsOf}
-use Rattle.pair.specs.RunsTrue.{pairAt, Ends, Conclude, Concludes, RunsTrue}
+use Rattle.pair.specs.RunsTrue.{pairAt, Ends, Conclude, RunConcludes, RunsTrue}
 use Rattle.pair.specs.declared.join.Joining.the-variants.{Ran}
 
 -- Where a run of n slots from slot t on ends.
@@ -73,16 +74,16 @@ ends-from at next (suc n) t = go (bothConcluded (at t)) refl (ends-from at next 
 
 -- Concluded is out of the exchange.
 
-is-concluded : (x : Outcome) → (x ≡ Exchanging → ⊥) → concluded x ≡ true
+is-concluded : (x : Outcome) → (x ≡ Exchanging → ⊥) → hasConcluded x ≡ true
 is-concluded Exchanging out = absurd (out refl)
 is-concluded (Open version profile slot signals) out = refl
 is-concluded (Refused number slot) out = refl
 
-not-exchanging : (x : Outcome) → concluded x ≡ true → x ≡ Exchanging → ⊥
-not-exchanging x c e = let z : _≡_ {A = ℕ} 0 1 = ap (λ (b : Bool). cond b 1 0) (sym (ap concluded e) ∙ c) in omega arith
+not-exchanging : (x : Outcome) → hasConcluded x ≡ true → x ≡ Exchanging → ⊥
+not-exchanging x c e = let z : _≡_ {A = ℕ} 0 1 = ap (λ (b : Bool). cond b 1 0) (sym (ap hasConcluded e) ∙ c) in omega arith
 
 -- an end that has concluded by slot t did so in the slot in which it does
-concluded-so : (slot : ℕ) (How : Outcome → Type 0) (stands : ℕ → Outcome) → ConcludesIn slot How stands → (t : ℕ) → concluded (stands t) ≡ true
+concluded-so : (slot : ℕ) (How : Outcome → Type 0) (stands : ℕ → Outcome) → Concludes slot How stands → (t : ℕ) → hasConcluded (stands t) ≡ true
     → How (stands t)
 concluded-so slot How stands c t over = go (ltb slot t) refl where
   go : (b : Bool) → ltb slot t ≡ b → How (stands t)
@@ -139,8 +140,8 @@ module _ (o a : Book) (d : ℕ) where
     ended = run-ends (may .bookO) (may .bookA)
 
     -- how both ends stand when the run is over
-    conclude : (HowO HowA : Outcome → Type 0) (slotO slotA : ℕ) → ConcludesIn slotO HowO (standsAt (started o) ho drive)
-        → ConcludesIn slotA HowA (standsAt (started a) ha drive) → Conclude HowO HowA (standsOf (ranOf o a d))
+    conclude : (HowO HowA : Outcome → Type 0) (slotO slotA : ℕ) → Concludes slotO HowO (standsAt (started o) ho drive)
+        → Concludes slotA HowA (standsAt (started a) ha drive) → Conclude HowO HowA (standsOf (ranOf o a d))
     conclude HowO HowA slotO slotA co ca =
         let t = ended .slot in
         let x = pairAt o a d t in
@@ -148,8 +149,8 @@ module _ (o a : Book) (d : ℕ) where
           o = standsAt (started o) ho drive t;
           a = standsAt (started a) ha drive t;
           is = ap standsOf (ended .is) ∙ sym (ap₂ Ran (stands-o t) (stands-a t));
-          howO = concluded-so slotO HowO (standsAt (started o) ho drive) co t (ap concluded (stands-o t) ∙ both-left (concluded (outcomeOf (x .o))) (concluded (outcomeOf (x .a))) (ended .over));
-          howA = concluded-so slotA HowA (standsAt (started a) ha drive) ca t (ap concluded (stands-a t) ∙ both-right (concluded (outcomeOf (x .o))) (concluded (outcomeOf (x .a))) (ended .over));
+          howO = concluded-so slotO HowO (standsAt (started o) ho drive) co t (ap hasConcluded (stands-o t) ∙ both-left (hasConcluded (outcomeOf (x .o))) (hasConcluded (outcomeOf (x .a))) (ended .over));
+          howA = concluded-so slotA HowA (standsAt (started a) ha drive) ca t (ap hasConcluded (stands-a t) ∙ both-right (hasConcluded (outcomeOf (x .o))) (hasConcluded (outcomeOf (x .a))) (ended .over));
         }
 
     refuse : (number slotO slotA : ℕ) → BothRefuse number slotO slotA (standsAt (started o) ho drive) (standsAt (started a) ha drive)
@@ -158,14 +159,17 @@ module _ (o a : Book) (d : ℕ) where
         let c = conclude (λ x. x ≡ Refused number slotO) (λ x. x ≡ Refused number slotA) slotO slotA (both .o) (both .a) in
         c .is ∙ ap₂ Ran (c .howO) (c .howA)
 
-    pub run-concludes : Concludes d o a
+    pub run-concludes : RunConcludes d o a
     run-concludes =
         record {
           opens = λ shared found.
               let both = both-open d drive drive ho ha o a joined-pair shared found in
-              conclude _ _ (5 * d + 419) (4 * d + 419) (both .o) (both .a);
-          noVersion = λ none. refuse 21 (3 * d + 40) (4 * d + 40) (no-version d drive drive ho ha o a joined-pair none);
-          noProfile = λ shared unknown. refuse 22 (5 * d + 419) (4 * d + 419) (no-profile d drive drive ho ha o a joined-pair shared unknown);
+              conclude _ _ (concludesO (meets d) d o a) (concludesA (meets d) d o a) (both .o) (both .a);
+          noVersion = λ none. refuse 21 (lacksO (meets d) d) (lacksA (meets d) d) (no-version d drive drive ho ha o a joined-pair none);
+          noProfile =
+              λ shared unknown.
+              refuse 22 (concludesO (meets d) d o a) (concludesA (meets d) d o a)
+              (no-profile d drive drive ho ha o a joined-pair shared unknown);
         }
 
 pub runs-true : RunsTrue

@@ -5,7 +5,7 @@ use Prim.Native.Nat.{ℕ, zero, suc, _-_, _≤_, _<_}
 use native.Mathlib.Omega.{arith}
 use Rattle.protocol.specs.Slot.{outcomeOf}
 use Rattle.protocol.specs.Joined.{Joined, idle, joinedSlot}
-use Rattle.pair.specs.Running.{concluded, bothConcluded, ranFor}
+use Rattle.pair.specs.Running.{hasConcluded, bothConcluded, ranFor}
 use Rattle.pair.specs.Rings.{pairIn, ringSlot, InRing}
 use Rattle.pair.specs.declared.running.Pair.{Pair}
 use Rattle.pair.proofs.Rings.{slot-joined, slot-in-ring}
@@ -28,7 +28,7 @@ pub run-over : (d : ℕ) (p : Pair) (whole : Joined) (left : ℕ) → left ≤ 0
 unfolding ranFor
 run-over d p whole left l e = let z : left ≡ 0 = omega arith in sym (rw z at e)
 
-module _ (d : ℕ) (p : Pair) (whole : Joined) (left : ℕ) {x y : Bool} (ox : x ≡ concluded (outcomeOf (p .o))) (ay : y ≡ concluded (outcomeOf (p .a))) where
+module _ (d : ℕ) (p : Pair) (whole : Joined) (left : ℕ) {x y : Bool} (ox : x ≡ hasConcluded (outcomeOf (p .o))) (ay : y ≡ hasConcluded (outcomeOf (p .a))) where
   pub run-stopped : x && y ≡ true → whole ≡ ranFor left (pairIn d p) → pairIn d p ≡ whole
   unfolding pairIn
   run-stopped c e = sym (e ∙ ran-stops left (pairIn d p) (rw (← ox, ← ay) c))

@@ -7,13 +7,13 @@ use Rattle.protocol.specs.declared.Outcome.{Outcome}
 use Rattle.protocol.specs.declared.Outcome.the-variants.{Exchanging, Open, Refused}
 
 -- open or refused
-abbrev pub concluded : Outcome → Bool
-concluded Exchanging = false
-concluded (Open version profile slot signals) = true
-concluded (Refused number slot) = true
+abbrev pub hasConcluded : Outcome → Bool
+hasConcluded Exchanging = false
+hasConcluded (Open version profile slot signals) = true
+hasConcluded (Refused number slot) = true
 
 abbrev pub bothConcluded : Joined → Bool
-bothConcluded j = concluded (outcomeOf (j .o)) && concluded (outcomeOf (j .a))
+bothConcluded j = hasConcluded (outcomeOf (j .o)) && hasConcluded (outcomeOf (j .a))
 
 -- the pair after the slot in which the second of them concludes, or after n slots
 unfoldable pub ranFor : ℕ → Joined → Joined

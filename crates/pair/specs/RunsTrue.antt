@@ -1,10 +1,11 @@
 -- What a run is to the undamaged pair of the definitions, and so to the calls of demand 3. Assumes nothing.
 use mathlib.Core.Path.{_≡_}
 use mathlib.Core.Bool.{true, false}
-use Prim.Native.Nat.{ℕ, _+_, _*_, _≤_, _<_, max}
+use Prim.Native.Nat.{ℕ, _≤_, _<_, max}
 use Rattle.book.specs.declared.Book.{Book}
 use Rattle.book.specs.Kept.{bookOk}
 use Rattle.protocol.specs.Exchange.{entryOf}
+use Rattle.protocol.specs.Schedule.{meets, lacksO, lacksA, concludesO, concludesA}
 use Rattle.protocol.specs.Slot.{started}
 use Rattle.protocol.specs.Pair.{MayJoin, ProfileIn, OpenSince, sharedVersion}
 use Rattle.protocol.specs.Joined.{Joined, idle}
@@ -37,12 +38,15 @@ pub record Conclude (HowO HowA : Outcome → Type 0) (j : Joining) : Type 0 wher
   pub howA : HowA a
 
 -- two books that may be joined open or refuse as demand 3 says
-pub record Concludes (d : ℕ) (o a : Book) : Type 0 where
+pub record RunConcludes (d : ℕ) (o a : Book) : Type 0 where
   pub opens : (sharedVersion o a ≡ 0 → ⊥) → ProfileIn o a
-      → Conclude (OpenSince (5 * d + 419) (sharedVersion o a) (entryOf o 0)) (OpenSince (4 * d + 419) (sharedVersion o a) (entryOf o 0)) (standsOf (ranOf o a d))
-  pub noVersion : sharedVersion o a ≡ 0 → standsOf (ranOf o a d) ≡ Ran (Refused 21 (3 * d + 40)) (Refused 21 (4 * d + 40))
-  pub noProfile : (sharedVersion o a ≡ 0 → ⊥) → (ProfileIn o a → ⊥) → standsOf (ranOf o a d) ≡ Ran (Refused 22 (5 * d + 419)) (Refused 22 (4 * d + 419))
+      → Conclude (OpenSince (concludesO (meets d) d o a) (sharedVersion o a) (entryOf o 0))
+      (OpenSince (concludesA (meets d) d o a) (sharedVersion o a) (entryOf o 0)) (standsOf (ranOf o a d))
+  pub noVersion : sharedVersion o a ≡ 0
+      → standsOf (ranOf o a d) ≡ Ran (Refused 21 (lacksO (meets d) d)) (Refused 21 (lacksA (meets d) d))
+  pub noProfile : (sharedVersion o a ≡ 0 → ⊥) → (ProfileIn o a → ⊥)
+      → standsOf (ranOf o a d) ≡ Ran (Refused 22 (concludesO (meets d) d o a)) (Refused 22 (concludesA (meets d) d o a))
 
 pub record RunsTrue : Type 0 where
   pub ends : (o a : Book) → bookOk o ≡ true → bookOk a ≡ true → (d : ℕ) → Ends o a d
-  pub concludes : (d : ℕ) (o a : Book) → MayJoin d o a → Concludes d o a
+  pub concludes : (d : ℕ) (o a : Book) → MayJoin d o a → RunConcludes d o a

@@ -1,11 +1,9 @@
 // The joined pair, run slot by slot until both ends are open or refused.
 use channel::byte::ChannelByte;
-use channel::byte::Leads;
 use endpoint::slot::outcome;
 use endpoint::slot::slot;
-use protocol::Drive;
+use opened::drive::idle;
 use protocol::Endpoint;
-use protocol::Offer;
 use protocol::Outcome;
 use protocol::Reply;
 use protocol::SlotAnswer;
@@ -14,7 +12,7 @@ ghost use Prim.Native.Nat.{_<_};
 ghost use lib.ListN.{getD, set};
 ghost use Rattle.protocol.specs.Slot.{outcomeOf, slotOf};
 ghost use Rattle.protocol.specs.Joined.{idle, byteOf};
-ghost use Rattle.pair.specs.Running.{concluded, ranFor};
+ghost use Rattle.pair.specs.Running.{hasConcluded, ranFor};
 ghost use Rattle.pair.specs.Rings.{InRing, pairIn, ringsOf, placeAfter, ringSlot};
 
 const LONGEST_DELAY: usize = 255;
@@ -41,24 +39,6 @@ pub(crate) fn joined(o: Endpoint, a: Endpoint) -> Pair
         back,
         forth,
         next: 0,
-    }
-}
-
-// No unit offered, leads 0100.
-fn idle() -> Drive
-    ensures { λ r. ⌜ r ≡ idle ⌝ }
-{
-    let leads = Leads {
-        s0: false,
-        s1: false,
-        s2: true,
-        s3: false,
-    };
-    let offer = Offer::Nothing;
-    Drive {
-        leads,
-        flag: false,
-        offer,
     }
 }
 
@@ -130,7 +110,7 @@ fn pair_slot(p: Pair, d: usize) -> Pair
 
 // Open or refused.
 fn has_concluded(e: Endpoint) -> bool
-    ensures { λ r. ⌜ r ≡ concluded (outcomeOf e) ⌝ }
+    ensures { λ r. ⌜ r ≡ hasConcluded (outcomeOf e) ⌝ }
 {
     let stands = outcome(e);
     match stands {

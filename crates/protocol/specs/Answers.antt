@@ -8,7 +8,7 @@ use Rattle.channel.specs.Bytes.{bitOf}
 use Rattle.channel.specs.Kinds.{kindOf}
 use Rattle.channel.specs.Forms.{unitIn, isData, wordOf}
 use Rattle.channel.specs.declared.kind.Kind.{Kind}
-use Rattle.channel.specs.declared.kind.Kind.the-variants.{Sgvi, Sgp, Dl, Dh, Sd, Other}
+use Rattle.channel.specs.declared.kind.Kind.the-variants.{Sgvi, Sgp, Sgr, Dl, Dh, Sd, Other}
 use Rattle.protocol.specs.Sent.{byteSent}
 use Rattle.protocol.specs.Exchange.{entryOf}
 use Rattle.protocol.specs.Opened.{pairForm}
@@ -65,6 +65,7 @@ wordIn w (Dl x) half = []
 wordIn w (Sd s bk) half = []
 wordIn w Sgvi half = []
 wordIn w (Sgp k) half = []
+wordIn w Sgr half = []
 wordIn w Other half = []
 
 -- form 0, unless BK stands on; forms 7 and 8 after the pair; form 6 a byte with B7 0

@@ -3,7 +3,7 @@ use mathlib.Core.Bool.{Bool, cond}
 use mathlib.Core.List.{List, [], _∷_, _++_}
 use Prim.Native.Nat.{ℕ, zero, suc}
 use Rattle.channel.specs.declared.kind.Kind.{Kind}
-use Rattle.channel.specs.declared.kind.Kind.the-variants.{Sgvi, Sgp, Dl, Dh, Sd, Other}
+use Rattle.channel.specs.declared.kind.Kind.the-variants.{Sgvi, Sgp, Sgr, Dl, Dh, Sd, Other}
 use Rattle.channel.specs.Kinds.{kindOf}
 use Rattle.protocol.specs.Sent.{Sent, Silence, Alone, Part, Unit}
 use Rattle.protocol.specs.Opened.{agreedSignals, idleSignals}
@@ -63,6 +63,7 @@ shownKind (Sd s bk) h =
     record { last = now; standing = agreedSignals (h .last) now (h .standing) }
 shownKind Sgvi h = h
 shownKind (Sgp k) h = h
+shownKind Sgr h = h
 shownKind (Dl x) h = h
 shownKind (Dh x) h = h
 shownKind Other h = h

@@ -6,7 +6,7 @@ use lib.Dec.{eqb, ltb}
 use lib.ListN.{getD, set, replicate}
 use Rattle.book.specs.declared.Book.{Book}
 use Rattle.channel.specs.declared.kind.Kind.{Kind}
-use Rattle.channel.specs.declared.kind.Kind.the-variants.{Sgvi, Sgp, Dl, Dh, Sd, Other}
+use Rattle.channel.specs.declared.kind.Kind.the-variants.{Sgvi, Sgp, Sgr, Dl, Dh, Sd, Other}
 use Rattle.channel.specs.Vote.{voted}
 use Rattle.protocol.specs.Lengths.{runLength, groupLength}
 use Rattle.protocol.specs.declared.Awaited.{Awaited}
@@ -21,6 +21,7 @@ noNibbles = replicate groupLength 0
 unfoldable pub ofRun : ℕ → Kind → Bool
 ofRun item Sgvi = eqb item 0
 ofRun item (Sgp k) = eqb item (k + 1)
+ofRun item Sgr = false
 ofRun item (Dl x) = false
 ofRun item (Dh x) = false
 ofRun item (Sd s bk) = false
@@ -84,6 +85,7 @@ inGroup h item count (Dl x) = cond (dlDue count) (grown h item count x) (begun h
 inGroup h item count (Dh x) = cond (dhDue count) (grown h item count x) (cond (lastDue count) (completed h item x) (dropped h item))
 inGroup h item count Sgvi = dropped h item
 inGroup h item count (Sgp k) = dropped h item
+inGroup h item count Sgr = dropped h item
 inGroup h item count (Sd s bk) = dropped h item
 inGroup h item count Other = dropped h item
 

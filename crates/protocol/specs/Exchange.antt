@@ -55,14 +55,19 @@ hasParams e values =
     && eqb (e .p3) (getD values 3 0)
     && eqb (e .p4) (getD values 4 0)
 
--- the entry with these parameters among the first n
-unfoldable pub matchIn : List Entry → List ℕ → ℕ → Match
-matchIn entries values zero = match.Nothing
-matchIn entries values (suc i) =
-    cond (hasParams (getD entries i noEntry) values) (match.Entry i) (matchIn entries values i)
+-- on a version an entry is matched by its parameters alone
+abbrev pub matches : ℕ → Entry → List ℕ → Bool
+matches version e values = hasParams e values
 
-abbrev pub matched : Book → Hearing → Match
-matched b h = matchIn (b .entries) (heardParams h) (b .n)
+-- the entry that is matched among the first n
+unfoldable pub matchIn : ℕ → List Entry → List ℕ → ℕ → Match
+matchIn version entries values zero = match.Nothing
+matchIn version entries values (suc i) =
+    cond (matches version (getD entries i noEntry) values) (match.Entry i) (matchIn version entries values i)
+
+-- the entry that has the other end's parameters, on the version settled
+abbrev pub matched : Book → ℕ → Hearing → Match
+matched b version h = matchIn version (b .entries) (heardParams h) (b .n)
 
 -- The byte acts.
 
@@ -129,14 +134,15 @@ abbrev pub answered : Match → List ℕ → List ℕ → List ℕ
 answered (match.Entry i) theirs own = theirs
 answered match.Nothing theirs own = own
 
-abbrev pub valuesSent : Book → Hearing → List ℕ
-valuesSent b h = cond (originates b) (paramsOf (entryOf b 0)) (answered (matched b h) (heardParams h) (paramsOf (entryOf b 0)))
+abbrev pub valuesSent : Book → ℕ → Hearing → List ℕ
+valuesSent b version h =
+    cond (originates b) (paramsOf (entryOf b 0)) (answered (matched b version h) (heardParams h) (paramsOf (entryOf b 0)))
 
 unfoldable pub sentAs : Book → Exchange → Sending → Sent
 sentAs b y Idle = Alone sdidle
 sentAs b y (Hail n) = Alone sgvi
 sentAs b y (Mask i) = Part i (maskSent b (y .version))
-sentAs b y (Parameters i) = parameterSent b (valuesSent b (y .hearing)) i
+sentAs b y (Parameters i) = parameterSent b (valuesSent b (y .version) (y .hearing)) i
 sentAs b y Done = Alone sdidle
 
 -- what is to be sent after that byte; after the mask an originator sends its parameters, an answerer Sdidle
@@ -173,7 +179,7 @@ fateSent b y s =
     cond (originates b)
     (cond (lastOfMask s && eqb (y .version) 0) (Refuses 21)
     (cond (lastOfAll b s && hasAll (y .hearing .awaited)) (compared b (y .hearing) (OpensSending 0)) Stays))
-    (cond (lastOfAll b s) (opensOn (matched b (y .hearing))) Stays)
+    (cond (lastOfAll b s) (opensOn (matched b (y .version) (y .hearing))) Stays)
 
 -- One slot of the exchange.
 

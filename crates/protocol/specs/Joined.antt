@@ -4,7 +4,7 @@ use mathlib.Core.List.{List, [], _∷_, _++_}
 use Prim.Native.Nat.{ℕ}
 use lib.ListN.{getD, drop, replicate}
 use Rattle.channel.specs.Bytes.{sgidle}
-use Rattle.protocol.specs.Opened.{idleLeads}
+use Rattle.protocol.specs.Opened.{idleLeads, driveWith}
 use Rattle.protocol.specs.Slot.{slotOf}
 use Rattle.protocol.specs.declared.Endpoint.{Endpoint}
 use Rattle.protocol.specs.declared.Offer.the-variants as offer
@@ -21,7 +21,7 @@ pub record Joined : Type 0 where
 
 -- what each end is given: leads 0100, no break, no unit offered
 abbrev pub idle : Drive
-idle = record { leads = idleLeads; flag = false; offer = offer.Nothing }
+idle = driveWith idleLeads false offer.Nothing
 
 -- the byte of a slot that has passed
 abbrev pub byteOf : Reply → ℕ

@@ -2,6 +2,7 @@ pub mod Lengths
 pub mod Collecting
 pub mod Sent
 pub mod Exchange
+pub mod Schedule
 pub mod Opened
 pub mod Ranges
 pub mod Slot
@@ -11,10 +12,10 @@ pub mod Concluding
 pub mod Votes
 pub mod Damage
 pub mod Pair
+pub mod Stretch
 pub mod Carried
 pub mod Delivery
 pub mod Joined
 pub mod Undamaged
 pub mod PlainPair
 pub mod OneCopyWrong
-pub mod Computing

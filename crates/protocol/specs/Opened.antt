@@ -5,7 +5,7 @@ use lib.Dec.{eqb, ltb}
 use Rattle.book.specs.declared.Entry.{Entry}
 use Rattle.channel.specs.declared.byte.Leads.{Leads}
 use Rattle.channel.specs.declared.kind.Kind.{Kind}
-use Rattle.channel.specs.declared.kind.Kind.the-variants.{Sgvi, Sgp, Dl, Dh, Sd, Other}
+use Rattle.channel.specs.declared.kind.Kind.the-variants.{Sgvi, Sgp, Sgr, Dl, Dh, Sd, Other}
 use Rattle.channel.specs.declared.unit.Form.{Form}
 use Rattle.channel.specs.declared.unit.Form.the-variants.{Six, SevenV1, SevenV2, Eight}
 use Rattle.channel.specs.Bytes.{sdByte, dlByte, dhByte}
@@ -68,13 +68,16 @@ idleLeads = record { s0 = false; s1 = false; s2 = true; s3 = false }
 abbrev pub idleSignals : Signals
 idleSignals = record { leads = idleLeads; bk = false }
 
+-- the sending half and the receiving half, put together
+abbrev pub outboundOf : ℕ → Half → (bk1 bk2 : Bool) → Outbound
+outboundOf opening due bk1 bk2 = record { opening = opening; due = due; bk1 = bk1; bk2 = bk2 }
+
+abbrev pub inboundOf : Half → ℕ → (last standing : Signals) → Inbound
+inboundOf half pair last standing = record { half = half; pair = pair; last = last; standing = standing }
+
 -- at the opening nothing has gone, and it is as if two Sdidle had come
 unfoldable pub freshLine : Line
-freshLine =
-    record {
-      outbound = record { opening = 0; due = Empty; bk1 = false; bk2 = false };
-      inbound = record { half = Empty; pair = 0; last = idleSignals; standing = idleSignals };
-    }
+freshLine = record { outbound = outboundOf 0 Empty false false; inbound = inboundOf Empty 0 idleSignals idleSignals }
 
 -- Receiving.
 
@@ -101,16 +104,13 @@ pub record Reading : Type 0 where
   pub delivered : Delivered
 
 abbrev pub reads : Inbound → Half → ℕ → Delivered → Reading
-reads i half pair d = record { inbound = record { half = half; pair = pair; last = i .last; standing = i .standing }; delivered = d }
+reads i half pair d = record { inbound = inboundOf half pair (i .last) (i .standing); delivered = d }
 
 -- an Sd drops the half, and the first byte of a pair
 abbrev pub readsSd : Inbound → Leads → Bool → Reading
 readsSd i leads bk =
     let now : Signals = record { leads = leads; bk = bk } in
-    record {
-      inbound = record { half = Empty; pair = 0; last = now; standing = agreedSignals (i .last) now (i .standing) };
-      delivered = delivered.Nothing;
-    }
+    record { inbound = inboundOf Empty 0 now (agreedSignals (i .last) now (i .standing)); delivered = delivered.Nothing }
 
 abbrev pub quiet : Inbound → Reading
 quiet i = reads i Empty 0 delivered.Nothing
@@ -127,6 +127,7 @@ readsWord w i (Dh x) = cond (i .standing .bk) (quiet i) (reads i Empty 0 (wordWi
 readsWord w i (Sd s bk) = readsSd i s bk
 readsWord w i Sgvi = quiet i
 readsWord w i (Sgp k) = quiet i
+readsWord w i Sgr = quiet i
 readsWord w i Other = quiet i
 
 -- form 6: a byte with B7 0 delivers; else it may be an Sd
@@ -136,6 +137,7 @@ readsIdle i (Dh x) = quiet i
 readsIdle i (Sd s bk) = readsSd i s bk
 readsIdle i Sgvi = quiet i
 readsIdle i (Sgp k) = quiet i
+readsIdle i Sgr = quiet i
 readsIdle i Other = quiet i
 
 unfoldable pub readsSix : Inbound → ℕ → Reading
@@ -148,6 +150,7 @@ readsPair i (Dh x) = reads i Empty (cond (eqb x 0 && eqb (i .pair) 1) 2 0) deliv
 readsPair i (Sd s bk) = readsSd i s bk
 readsPair i Sgvi = quiet i
 readsPair i (Sgp k) = quiet i
+readsPair i Sgr = quiet i
 readsPair i Other = quiet i
 
 -- they deliver every byte after the first received pair
@@ -166,6 +169,10 @@ reading (shape.Unit f) i b = readsForm f i b
 
 -- Sending.
 
+-- what a slot is given besides the received byte, put together
+abbrev pub driveWith : Leads → Bool → Offer → Drive
+driveWith leads flag offer = record { leads = leads; flag = flag; offer = offer }
+
 -- what is sent, whether the offered unit is taken, and what becomes of the sending half
 pub record Writing : Type 0 where
   pub outbound : Outbound
@@ -179,14 +186,14 @@ bkSent s g = isWord s && g .flag
 abbrev pub writesSd : Shape → Outbound → ℕ → Drive → Writing
 writesSd s o opening g =
     record {
-      outbound = record { opening = opening; due = Empty; bk1 = bkSent s g; bk2 = o .bk1 };
+      outbound = outboundOf opening Empty (bkSent s g) (o .bk1);
       sent = Alone (sdByte (g .leads) (bkSent s g));
       taken = false;
     }
 
 abbrev pub writes : Outbound → ℕ → Half → Sent → Bool → Writing
 writes o opening due sent taken =
-    record { outbound = record { opening = opening; due = due; bk1 = o .bk1; bk2 = o .bk2 }; sent = sent; taken = taken }
+    record { outbound = outboundOf opening due (o .bk1) (o .bk2); sent = sent; taken = taken }
 
 -- the first bytes: 16 Sd, then in forms 7 and 8 the pair 05 0D
 unfoldable pub writesOpening : Shape → Outbound → Drive → Writing

@@ -1,7 +1,7 @@
 -- Two ends joined by a channel that delays each way by d slots and keeps order, started together. Assumes nothing.
 use mathlib.Core.Path.{_≡_}
 use mathlib.Core.Bool.{true}
-use Prim.Native.Nat.{ℕ, _+_, _*_, _≤_, _<_}
+use Prim.Native.Nat.{ℕ, _≤_, _<_}
 use lib.ListN.{getD}
 use Rattle.book.specs.declared.Entry.{Entry}
 use Rattle.book.specs.declared.Book.{Book}
@@ -9,6 +9,7 @@ use Rattle.book.specs.Book.{originating, answering, paramsOf, sameParams}
 use Rattle.book.specs.Kept.{bookOk}
 use Rattle.channel.specs.Versions.{highest}
 use Rattle.protocol.specs.Exchange.{entryOf, identifier}
+use Rattle.protocol.specs.Schedule.{enough}
 use Rattle.protocol.specs.Slot.{started}
 use Rattle.protocol.specs.Call.{sentAt, Allowed}
 use Rattle.protocol.specs.Damage.{Arrives}
@@ -31,9 +32,9 @@ pub record MayJoin (d : ℕ) (bo ba : Book) : Type 0 where
   pub bytesA : OfBytes ba
   pub roleO : bo .role ≡ originating
   pub roleA : ba .role ≡ answering
-  -- limits at least 5d+420
-  pub limitO : 5 * d + 420 ≤ bo .limit
-  pub limitA : 5 * d + 420 ≤ ba .limit
+  -- limits that are enough: at least 5d+420
+  pub limitO : enough d bo ba ≤ bo .limit
+  pub limitA : enough d bo ba ≤ ba .limit
   -- equal parameters have equal form and word length in both books
   pub forms : (i : ℕ) → i < ba .n → sameParams (entryOf ba i) (entryOf bo 0) ≡ true
       → (entryOf ba i .form ≡ entryOf bo 0 .form) × (entryOf ba i .w ≡ entryOf bo 0 .w)
@@ -68,10 +69,10 @@ pub record Concludes (slot : ℕ) (How : Outcome → Type 0) (stands : ℕ → O
   pub before : (t : ℕ) → t ≤ slot → stands t ≡ Exchanging
   pub after : (t : ℕ) → slot < t → How (stands t)
 
--- both ends open, O in slot 5d+419 and A in slot 4d+419, on one version and on the originator's profile, and stay open
-pub record BothOpen (d version : ℕ) (profile : Entry) (standsO standsA : ℕ → Outcome) : Type 0 where
-  pub o : Concludes (5 * d + 419) (OpenSince (5 * d + 419) version profile) standsO
-  pub a : Concludes (4 * d + 419) (OpenSince (4 * d + 419) version profile) standsA
+-- both ends open, each in its slot, on one version and on the originator's profile, and stay open
+pub record BothOpen (slotO slotA version : ℕ) (profile : Entry) (standsO standsA : ℕ → Outcome) : Type 0 where
+  pub o : Concludes slotO (OpenSince slotO version profile) standsO
+  pub a : Concludes slotA (OpenSince slotA version profile) standsA
 
 -- neither opens, ever: both refuse under one number, each in its slot
 pub record BothRefuse (number slotO slotA : ℕ) (standsO standsA : ℕ → Outcome) : Type 0 where

@@ -22,6 +22,7 @@ use Rattle.protocol.specs.declared.Shape.{Shape}
 use Rattle.protocol.specs.declared.Shape.the-variants as shape
 use Rattle.protocol.specs.declared.Outbound.{Outbound}
 use Rattle.protocol.specs.declared.Inbound.{Inbound}
+use Rattle.protocol.specs.declared.Line.{Line}
 use Rattle.protocol.specs.declared.Phase.{Phase}
 use Rattle.protocol.specs.declared.Phase.the-variants as phase
 use Rattle.protocol.specs.declared.Endpoint.{Endpoint}
@@ -111,16 +112,21 @@ inboundIn s i = halfIn s (i .half) && leb (i .pair) 2 && (hasPair s || eqb (i .p
 unfoldable pub refusedIn : Book → ℕ → ℕ → Bool
 refusedIn b number slot = ltb slot (b .limit) && (eqb number 21 || eqb number 22 || (eqb number 23 && eqb (slot + 1) (b .limit)))
 
-unfoldable pub phaseIn : Book → List ℕ → List ℕ → Phase → Bool
-phaseIn b nibbles values (phase.Exchanging slot version a s) =
-    ltb slot (b .limit) && awaitedIn b a && sendingIn b a s && versionIn b a s version && nibblesIn a nibbles && valuesIn a values
-phaseIn b nibbles values (phase.Open slot version entry line) =
+-- an end in the exchange, but for what it has collected; an open end, but for that
+abbrev pub exchangeIn : Book → ℕ → ℕ → Awaited → Sending → Bool
+exchangeIn b slot version a s = ltb slot (b .limit) && awaitedIn b a && sendingIn b a s && versionIn b a s version
+
+abbrev pub openIn : Book → ℕ → ℕ → ℕ → Line → Bool
+openIn b slot version entry line =
     ltb slot (b .limit) && isVersion b version && ltb entry (b .n)
     && outboundIn (shapeOf (entryOf b entry) version) (line .outbound)
     && inboundIn (shapeOf (entryOf b entry) version) (line .inbound)
-    && allZero nibbles
-phaseIn b nibbles values (phase.Refused number slot) =
-    refusedIn b number slot && allZero nibbles
+
+unfoldable pub phaseIn : Book → List ℕ → List ℕ → Phase → Bool
+phaseIn b nibbles values (phase.Exchanging slot version a s) =
+    exchangeIn b slot version a s && nibblesIn a nibbles && valuesIn a values
+phaseIn b nibbles values (phase.Open slot version entry line) = openIn b slot version entry line && allZero nibbles
+phaseIn b nibbles values (phase.Refused number slot) = refusedIn b number slot && allZero nibbles
 
 -- the kept book is one that the book checks would not refuse, and the rest is in its range
 unfoldable pub wellFormed : Endpoint → Bool

@@ -33,8 +33,8 @@ use Rattle.protocol.specs.declared.Start.{Start}
 
 -- An end in the exchange, with its state but for the clock.
 
-abbrev pub exchangeIn : Endpoint → ℕ → Awaited → Sending → Exchange
-exchangeIn e version a s =
+abbrev pub exchangeOf : Endpoint → ℕ → Awaited → Sending → Exchange
+exchangeOf e version a s =
     record { hearing = record { awaited = a; nibbles = e .nibbles; values = e .values }; version = version; sending = s }
 
 abbrev pub exchanging : Book → ℕ → Exchange → Endpoint
@@ -111,7 +111,7 @@ openStep e slot version i line heard g =
 
 -- refused ends send Sdidle for ever and ignore what comes
 unfoldable pub stepAt : Endpoint → ℕ → Drive → Phase → Step
-stepAt e heard g (Exchanging slot version a s) = exchangeStep (e .book) slot (exchangeIn e version a s) heard g
+stepAt e heard g (Exchanging slot version a s) = exchangeStep (e .book) slot (exchangeOf e version a s) heard g
 stepAt e heard g (Open slot version i line) = openStep e slot version i line heard g
 stepAt e heard g (Refused number slot) = step e (Alone sdidle)
 

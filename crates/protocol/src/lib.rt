@@ -24,8 +24,8 @@ pub enum Sending {
     Hail(u8),
     // the identifier; so many of its 6 bytes have gone
     Mask(u8),
-    // the five parameters; so many of their 190 bytes have gone
-    Parameters(u8),
+    // the five parameters; so many of their bytes have gone, of 190 in all
+    Parameters(u16),
     // Sdidle, all parameters being sent
     Done,
 }

@@ -2,13 +2,11 @@
 use book::number;
 use book::read_book;
 use channel::byte::ChannelByte;
-use channel::byte::Leads;
 use endpoint::slot::slot;
 use endpoint::start::start;
 use libc::STDOUT_FILENO;
+use opened::drive::idle;
 use pair::report::report;
-use protocol::Drive;
-use protocol::Offer;
 use protocol::Reply;
 use text::Text;
 use text::decimal;
@@ -31,22 +29,6 @@ fn show(sample: &[u8], came: Text, says: &[u8]) {
     io::write_all(STDOUT_FILENO, b"01 says:\n");
     io::write_all(STDOUT_FILENO, says);
     io::write_all(STDOUT_FILENO, b"\n");
-}
-
-// Leads 0100, no break, no unit offered.
-fn idle() -> Drive {
-    let leads = Leads {
-        s0: false,
-        s1: false,
-        s2: true,
-        s3: false,
-    };
-    let offer = Offer::Nothing;
-    Drive {
-        leads,
-        flag: false,
-        offer,
-    }
 }
 
 fn sent(r: Reply) -> u8 {

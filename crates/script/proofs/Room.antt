@@ -8,14 +8,13 @@ use native.Mathlib.Omega.{arith}
 use lib.Dec.{eqb, ltb, leb}
 use lib.ListN.{length, take, drop, length-append, length-drop}
 use lib.Seq.{length-take-le, take-all, take-append-seam}
-use borrow.Author.Tests.{leb-true}
+use borrow.Author.Tests.{leb-true, eqb-true}
 use Rattle.ground.specs.Digits.{bit}
 use Rattle.ground.proofs.Test.{both-left, both-right}
-use Rattle.book.specs.declared.Verdict.{Verdict}
-use Rattle.book.specs.declared.Verdict.the-variants as verdict
+use Rattle.book.specs.declared.Book.{Book}
 use Rattle.book.specs.Kept.{bookOk}
-use Rattle.book.specs.Reading.{accepts, readBook}
-use Rattle.book.proofs.RoundTrip.{read-passes}
+use Rattle.book.specs.Reading.{numberOf, readBook}
+use Rattle.book.proofs.RoundTrip.{number-passes}
 use Rattle.channel.specs.Bytes.{byte}
 use Rattle.protocol.specs.declared.Phase.{Phase}
 use Rattle.protocol.specs.declared.Phase.the-variants.{Exchanging, Open, Refused}
@@ -27,11 +26,11 @@ use Rattle.protocol.specs.Exchange.{entryOf, identifier}
 use Rattle.protocol.specs.Opened.{shapeOf}
 use Rattle.protocol.specs.Ranges.{allZero, isVersion, outboundIn, inboundIn, phaseIn, wellFormed}
 use Rattle.protocol.specs.Slot.{Step, stepOf, offerAllowed, outcomeAt, outcomeOf, passes, refuses, slotOf, started, startOf}
-use Rattle.protocol.proofs.StateKept.{started-kept, slot-kept}
+use Rattle.protocol.proofs.Kept.StateKept.{started-kept, slot-kept}
 use Rattle.text.specs.Numerals.{decimalOf}
 use Rattle.script.specs.Input.{bookIn, slotsIn, scriptFault, driveOf}
 use Rattle.script.specs.Line.{sentField, deliveredField, takenField, refusalNote, replyFields, signalsField, standsField, detailField, outcomeFields}
-use Rattle.script.specs.Output.{lineBy, linesFrom, saysFrom, saysStarted, scriptSays, over}
+use Rattle.script.specs.Output.{lineBy, linesFrom, bookRefused, saysStarted, scriptSays, over}
 use Rattle.text.proofs.Lengths.{decimal-most, one-digit, parameters-length}
 use Rattle.script.proofs.LineLength.{signals-length, passed-most, outcome-most, line-length}
 use Rattle.script.proofs.Saying.{refusal-fits, fine}
@@ -115,14 +114,17 @@ lines-room place e (heard ∷ flags ∷ unit ∷ rest) ok =
 
 started-room : (slots bytes : List ℕ) → length slots ≤ 65535 → length (saysStarted slots (startOf (readBook bytes))) ≤ 17 * 65536
 unfolding startOf
-started-room slots bytes h = by (readBook bytes .verdict) refl
+started-room slots bytes h = by (eqb number 0) refl
   where
-    by : (v : Verdict) → readBook bytes .verdict ≡ v → length (saysFrom slots (started (readBook bytes .book)) v) ≤ 17 * 65536
-    by verdict.Accepted e =
-        let b = readBook bytes .book in
-        let reads : readBook bytes ≡ accepts b = ap (λ (v : Verdict). record { verdict = v; book = b }) e in
-        omega (arith, lines-room 0 (started b) slots (started-kept b (read-passes bytes b reads)))
-    by (verdict.Refused number) e = omega (arith, refusal-fits number)
+    b : Book
+    b = readBook bytes .book
+
+    number : ℕ
+    number = numberOf (readBook bytes .verdict)
+
+    by : (fine : Bool) → eqb number 0 ≡ fine → length (cond fine (linesFrom 0 (started b) slots) (bookRefused number)) ≤ 17 * 65536
+    by true e = omega (arith, lines-room 0 (started b) slots (started-kept b (number-passes bytes (eqb-true number 0 e))))
+    by false e = omega (arith, refusal-fits number)
 
 -- 1,114,112 bytes are room for what any script says
 pub any-script-fits : (s : List ℕ) → length (scriptSays s) ≤ 17 * 65536

@@ -10,7 +10,7 @@ use Rattle.protocol.specs.declared.Delivered.the-variants as delivered
 use Rattle.protocol.specs.declared.Outcome.{Outcome}
 use Rattle.protocol.specs.declared.Outcome.the-variants.{Exchanging, Open, Refused}
 use Rattle.protocol.specs.declared.Reply.the-variants as reply
-use Rattle.protocol.specs.Computing.{computing}
+use Rattle.protocol.proofs.Computing.{computing}
 use Rattle.protocol.specs.Slot.{startOf}
 use Rattle.text.specs.Ascii.{ascii}
 use Rattle.text.specs.Numerals.{decimalOf, hexOf, parametersOf}

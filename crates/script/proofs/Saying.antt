@@ -8,16 +8,15 @@ use native.Mathlib.Omega.{arith}
 use lib.Dec.{ltb}
 use lib.ListN.{length, take, drop, length-append}
 use lib.Seq.{paste}
-use borrow.Author.Tests.{ltb-false}
-use Rattle.book.specs.declared.Verdict.{Verdict}
-use Rattle.book.specs.Reading.{readBook}
+use borrow.Author.Tests.{ltb-false, ne-eqb}
+use Rattle.book.specs.Reading.{numberOf, readBook}
 use Rattle.protocol.specs.declared.Start.{Start}
 use Rattle.protocol.specs.Slot.{startOf}
 use Rattle.text.specs.declared.Text.{Text}
 use Rattle.text.specs.Text.{room, text}
 use Rattle.text.specs.Ascii.{ascii}
 use Rattle.script.specs.Input.{mostBytes, bookLength, bookIn, slotsAt, slotsIn, slotsFault, scriptFault}
-use Rattle.script.specs.Output.{bookRefused, saysFrom, scriptSays, over}
+use Rattle.script.specs.Output.{linesFrom, bookRefused, saysFrom, scriptSays, over}
 use Rattle.text.proofs.Lengths.{decimal-most}
 use Rattle.script.proofs.Slots.{or-left, or-right}
 use Rattle.script.proofs.Filling.{SoFar, begin, go-on, finish-buffer, finish-count}
@@ -73,16 +72,22 @@ module _ (s : List ℕ) {f : Bool} (test : f ≡ scriptFault s) (ok : f ≡ fals
     pub slots-fine : slotsFault (drop from s) ≡ false
     slots-fine = ap (λ (n : ℕ). slotsFault (drop n s)) at ∙ fine .slots
 
-    pub started : {b : Start} → b ≡ startOf (readBook (take (from - 2) (drop 2 s))) → {v : Verdict} → b .verdict ≡ v
-        → scriptSays s ≡ saysFrom (drop from s) (b .state) v
-    unfolding scriptSays
-    started {b} eb {v} ev =
-        let k : from - 2 ≡ bookLength s = omega arith in
-        let is : b ≡ startOf (readBook (bookIn s)) = eb ∙ ap (λ (n : ℕ). startOf (readBook (take n (drop 2 s)))) k in
-        rw (sym test ∙ ok)
-        (ap (λ (b : Start). saysFrom (slotsIn s) (b .state) (b .verdict)) (sym is)
-        ∙ ap (saysFrom (slotsIn s) (b .state)) ev
-        ∙ ap (λ (n : ℕ). saysFrom (drop n s) (b .state) v) (sym at))
+    module _ {b : Start} (eb : b ≡ startOf (readBook (take (from - 2) (drop 2 s)))) {number : ℕ} (en : number ≡ numberOf (b .verdict)) where
+      started : scriptSays s ≡ saysFrom (drop from s) (b .state) number
+      unfolding scriptSays
+      started =
+          let k : from - 2 ≡ bookLength s = omega arith in
+          let is : b ≡ startOf (readBook (bookIn s)) = eb ∙ ap (λ (n : ℕ). startOf (readBook (take n (drop 2 s)))) k in
+          rw (sym test ∙ ok)
+          (ap (λ (b : Start). saysFrom (slotsIn s) (b .state) (numberOf (b .verdict))) (sym is)
+          ∙ ap (saysFrom (slotsIn s) (b .state)) (sym en)
+          ∙ ap (λ (n : ℕ). saysFrom (drop n s) (b .state) number) (sym at))
+
+      pub refused : (number ≡ 0 → ⊥) → scriptSays s ≡ bookRefused number
+      refused h = started ∙ rw (ne-eqb number 0 h)
+
+      pub accepted : number ≡ 0 → scriptSays s ≡ linesFrom 0 (b .state) (drop from s)
+      accepted z = started ∙ rw z
 
 -- a script at fault
 pub at-fault : (s : List ℕ) {f : Bool} → f ≡ scriptFault s → f ≡ true → scriptSays s ≡ ascii "input refused\n"

@@ -18,8 +18,8 @@ use Rattle.protocol.specs.Call.{endAt, standsAt}
 use Rattle.protocol.specs.declared.Endpoint.{Endpoint}
 use Rattle.protocol.specs.declared.Drive.{Drive}
 use Rattle.protocol.specs.declared.SlotAnswer.{SlotAnswer}
-use Rattle.protocol.proofs.SlotPasses.{reply-passes, slot-refused}
-use Rattle.protocol.proofs.StateKept.{call-kept}
+use Rattle.protocol.proofs.Calls.SlotPasses.{reply-passes, slot-refused}
+use Rattle.protocol.proofs.Kept.StateKept.{call-kept}
 use Rattle.script.specs.Input.{mostBytes, isStray, bookIn, slotsAt, slotsIn, slotsFault, scriptFault}
 use Rattle.script.specs.Line.{lineOf}
 use Rattle.script.specs.Output.{lineBy, linesFrom, saysStarted, scriptSays}

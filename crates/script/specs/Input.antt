@@ -5,6 +5,7 @@ use Prim.Native.Nat.{ℕ, _+_, _*_}
 use lib.Dec.{eqb, ltb}
 use lib.ListN.{length, take, drop, getD}
 use Rattle.ground.specs.Digits.{bit}
+use Rattle.protocol.specs.Opened.{driveWith}
 use Rattle.protocol.specs.declared.Offer.{Offer}
 use Rattle.protocol.specs.declared.Offer.the-variants.{Nothing, Unit}
 use Rattle.protocol.specs.declared.Drive.{Drive}
@@ -50,8 +51,5 @@ offerOf false unit = Nothing
 -- leads s0 to s3 in bits 0 to 3, the break flag in bit 4, and bit 5 on if a unit is offered
 unfoldable pub driveOf : ℕ → ℕ → Drive
 driveOf flags unit =
-    record {
-      leads = record { s0 = isOn 0 flags; s1 = isOn 1 flags; s2 = isOn 2 flags; s3 = isOn 3 flags };
-      flag = isOn 4 flags;
-      offer = offerOf (isOn 5 flags) unit;
-    }
+    driveWith (record { s0 = isOn 0 flags; s1 = isOn 1 flags; s2 = isOn 2 flags; s3 = isOn 3 flags }) (isOn 4 flags)
+    (offerOf (isOn 5 flags) unit)

@@ -2,10 +2,9 @@
 use mathlib.Core.Bool.{cond}
 use mathlib.Core.List.{List, [], _∷_, _++_}
 use Prim.Native.Nat.{ℕ, _+_}
+use lib.Dec.{eqb}
 use lib.ListN.{length, take, drop}
-use Rattle.book.specs.declared.Verdict.{Verdict}
-use Rattle.book.specs.declared.Verdict.the-variants.{Accepted, Refused}
-use Rattle.book.specs.Reading.{readBook}
+use Rattle.book.specs.Reading.{numberOf, readBook}
 use Rattle.protocol.specs.declared.Endpoint.{Endpoint}
 use Rattle.protocol.specs.declared.SlotAnswer.{SlotAnswer}
 use Rattle.protocol.specs.declared.Start.{Start}
@@ -30,12 +29,12 @@ linesFrom place e (heard ∷ flags ∷ unit ∷ rest) =
 unfoldable pub bookRefused : ℕ → List ℕ
 bookRefused number = ascii "book refused by number " ++ decimalOf number ++ ascii "\n"
 
-abbrev pub saysFrom : List ℕ → Endpoint → Verdict → List ℕ
-saysFrom slots e Accepted = linesFrom 0 e slots
-saysFrom slots e (Refused number) = bookRefused number
+-- by the number of the book's verdict
+abbrev pub saysFrom : List ℕ → Endpoint → ℕ → List ℕ
+saysFrom slots e number = cond (eqb number 0) (linesFrom 0 e slots) (bookRefused number)
 
 abbrev pub saysStarted : List ℕ → Start → List ℕ
-saysStarted slots b = saysFrom slots (b .state) (b .verdict)
+saysStarted slots b = saysFrom slots (b .state) (numberOf (b .verdict))
 
 -- the input is tested before the book is read
 unfoldable pub scriptSays : List ℕ → List ℕ

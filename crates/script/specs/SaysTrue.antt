@@ -31,7 +31,8 @@ module _ (e : Endpoint) (heard : ℕ → ℕ) (given : ℕ → Drive) where
   abbrev pub repliesIn : ℕ → Reply
   repliesIn t =
       cond (offerAllowed (endAt e heard given t) (given t) (endAt e heard given t .phase))
-      (Passed (byte (byteSent (sentAt e heard given t))) (deliveredAt e heard given t) (takenAt e heard given t) (standsAt e heard given (suc t)))
+      (Passed (byte (byteSent (sentAt e heard given t))) (deliveredAt e heard given t) (takenAt e heard given t)
+      (standsAt e heard given (suc t)))
       (Refused 12)
 
   -- the lines of its first n slots

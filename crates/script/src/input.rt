@@ -1,20 +1,15 @@
 // A script: a 16-bit big-endian book length, the book, then three bytes a slot.
 use channel::byte::Leads;
+use opened::drive::drive_with;
 use protocol::Drive;
 use protocol::Offer;
 ghost use mathlib.Core.Path.{_≡_};
-ghost use Prim.Native.Nat.{_/_, _%_, _≤_, _<_};
+ghost use Prim.Native.Nat.{_+_, _*_, _/_, _%_, _≤_, _<_};
 ghost use lib.Dec.{eqb};
 ghost use lib.ListN.{length, drop};
 ghost use Rattle.script.specs.Input.{slotsAt, isStray, slotsFault, scriptFault, offerOf, driveOf};
 
 const MOST_BYTES: usize = 65535;
-
-fn wide(x: u8) -> usize
-    ensures { λ r. ⌜ (r ≡ x) × (r < 256) ⌝ }
-{
-    x as usize
-}
 
 fn is_on(flags: u8, weight: u8) -> bool
     requires { ⌜ 0 < weight ⌝ }
@@ -49,12 +44,14 @@ pub(crate) fn drive(flags: u8, unit: u8) -> Drive
         s2: is_on(flags, 4),
         s3: is_on(flags, 8),
     };
-    let offer = offer(is_on(flags, 32), unit);
-    Drive {
-        leads,
-        flag: is_on(flags, 16),
-        offer,
-    }
+    drive_with(leads, is_on(flags, 16), offer(is_on(flags, 32), unit))
+}
+
+// Where a book ends whose length these two bytes say.
+fn book_end(high: u8, low: u8) -> usize
+    ensures { λ r. ⌜ r ≡ 2 + (256 * high + low) ⌝ }
+{
+    2 + (256 * (high as usize) + (low as usize))
 }
 
 // Where the slots start, which is where the book ends.
@@ -62,7 +59,7 @@ pub(crate) fn slots_at(s: &[u8]) -> usize
     requires { ⌜ 2 ≤ length (now s) ⌝ }
     ensures { λ r. ⌜ r ≡ slotsAt (now (s .entry)) ⌝ }
 {
-    2 + (256 * wide(s[0]) + wide(s[1]))
+    book_end(s[0], s[1])
 }
 
 // Whether the slots are cut, or one of them has bit 6 or 7 on.

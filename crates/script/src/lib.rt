@@ -1,5 +1,5 @@
 // One end, driven by a script: what is said of each slot.
-use book::Verdict;
+use book::number;
 use channel::byte::ChannelByte;
 use endpoint::slot::outcome;
 use endpoint::slot::slot;
@@ -67,9 +67,10 @@ pub fn run(s: &[u8], out: &mut [u8]) -> usize
     let from = input::slots_at(s);
     let begun = start(&s[2..from]);
     let verdict = begun.verdict;
-    let e = begun.state;
-    match verdict {
-        Verdict::Accepted => lines(s, from, e, out),
-        Verdict::Refused(number) => output::put(book_refused(number), out, 0),
+    let refusal = number(verdict);
+    if refusal != 0 {
+        return output::put(book_refused(refusal), out, 0);
     }
+    let e = begun.state;
+    lines(s, from, e, out)
 }

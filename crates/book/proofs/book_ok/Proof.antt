@@ -10,8 +10,8 @@ values-no-requires c κs = search needs
 returns : tie.Need-returns
 returns c = search kept-ways
 
-wide-requires : tie.Need-wide-requires
-wide-requires c κs = search needs
+cast-n : tie.Need-cast-n
+cast-n c = search needs
 
 entries-no-requires : tie.Need-entries-no-requires
 entries-no-requires c κs = search count-kept
@@ -31,7 +31,7 @@ book-ok-spec =
     (tie.spec
     values-no-requires
     returns
-    wide-requires
+    cast-n
     entries-no-requires
     returns-2
     is-padded-requires

@@ -1,6 +1,6 @@
 -- `entry_part` hands back the bytes of entry i at their place, or an empty part. Assumes nothing.
 use borrow.Author.Needs.{needs}
-use Rattle.book.proofs.Lookup.{parts, places, part-within}
+use Rattle.book.proofs.Lookup.{parts, places, version-there, part-within}
 use Rattle.book.proofs.entry_part.Statement.{statement}
 use Rattle.book.proofs.entry_part.Tie as tie
 
@@ -16,14 +16,17 @@ slice-aggregate-result c = search needs
 returns : tie.Need-returns
 returns c = (search parts, search places)
 
-wide-requires : tie.Need-wide-requires
-wide-requires c κs = search needs
+cast-n : tie.Need-cast-n
+cast-n c = search needs
 
 slice-aggregate-result-2 : tie.Need-slice-aggregate-result-2
 slice-aggregate-result-2 c = search needs
 
 returns-2 : tie.Need-returns-2
 returns-2 c = (search parts, search places)
+
+version-in-requires : tie.Need-version-in-requires
+version-in-requires c κs = search version-there
 
 entry-start-requires : tie.Need-entry-start-requires
 entry-start-requires c κs = search needs
@@ -51,9 +54,10 @@ entry-part-spec =
     number-requires
     slice-aggregate-result
     returns
-    wide-requires
+    cast-n
     slice-aggregate-result-2
     returns-2
+    version-in-requires
     entry-start-requires
     add-result
     sub-result

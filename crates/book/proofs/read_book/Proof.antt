@@ -25,6 +25,9 @@ refused-requires-2 c κs = search needs
 returns-2 : tie.Need-returns-2
 returns-2 c = (search replies, search reply-numbers)
 
+version-in-requires : tie.Need-version-in-requires
+version-in-requires c κs = search long-enough
+
 length-no-requires : tie.Need-length-no-requires
 length-no-requires c κs = search needs
 
@@ -34,8 +37,8 @@ refused-requires-3 c κs = search needs
 returns-3 : tie.Need-returns-3
 returns-3 c = (search replies, search reply-numbers)
 
-wide-requires : tie.Need-wide-requires
-wide-requires c κs = search needs
+cast-n : tie.Need-cast-n
+cast-n c = search needs
 
 load-requires : tie.Need-load-requires
 load-requires c κs = (search count-fits, search entries-there)
@@ -63,10 +66,11 @@ read-book-spec =
     values-no-requires
     refused-requires-2
     returns-2
+    version-in-requires
     length-no-requires
     refused-requires-3
     returns-3
-    wide-requires
+    cast-n
     load-requires
     entries-no-requires
     refused-requires-4

@@ -31,14 +31,14 @@ mul-spare c =
     let a = c .before .before .before .before .before .args in
     omega (arith, rest-le (a .k) (length (now (a .units))) (search needs))
 
-sub-wide : tie.Need-sub-wide
-sub-wide c = search needs
+sub-as-usize : tie.Need-sub-as-usize
+sub-as-usize c = search needs
 
-shared-slice-read-wide : tie.Need-shared-slice-read-wide
-shared-slice-read-wide c = search needs
+shared-slice-read-as-usize : tie.Need-shared-slice-read-as-usize
+shared-slice-read-as-usize c = search needs
 
-wide-requires : tie.Need-wide-requires
-wide-requires c κs = search needs
+as-usize-requires : tie.Need-as-usize-requires
+as-usize-requires c κs = search needs
 
 sub-lowest : tie.Need-sub-lowest
 sub-lowest c =
@@ -55,7 +55,7 @@ returns-3 c =
     let a = c .before .before .before .before .before .before .before .args in
     last-unit (a .k) (now (a .units)) _ _ (c .before .before .before .before .before .octets-in .ensures)
     (c .before .before .before .before .units-for .ensures) (c .before .before .before .if1 .left) _ _ (search needs) (search needs)
-    (c .before .before .if2 .left) (c .wide .ensures) (one-shl _ (omega arith))
+    (c .before .before .if2 .left) (c .as-usize .ensures) (one-shl _ (omega arith))
 
 pub not-whole-spec : {M : Type 1} → statement M
 not-whole-spec =
@@ -66,9 +66,9 @@ not-whole-spec =
     returns
     returns-2
     mul-spare
-    sub-wide
-    shared-slice-read-wide
-    wide-requires
+    sub-as-usize
+    shared-slice-read-as-usize
+    as-usize-requires
     sub-lowest
     shl-lowest
     returns-3)

@@ -19,15 +19,15 @@ shl-limit c = search needs
 loop-holds : tie.Need-loop-holds Inv-loop μ-loop
 loop-holds c = start _ _ _ (one-shl _ (search needs))
 
-shared-slice-read-wide : tie.Need-shared-slice-read-wide Inv-loop μ-loop
-shared-slice-read-wide c = search needs
+shared-slice-read-as-usize : tie.Need-shared-slice-read-as-usize Inv-loop μ-loop
+shared-slice-read-as-usize c = search needs
 
-wide-requires : tie.Need-wide-requires Inv-loop μ-loop
-wide-requires c κs = search needs
+as-usize-requires : tie.Need-as-usize-requires Inv-loop μ-loop
+as-usize-requires c κs = search needs
 
 returns : tie.Need-returns Inv-loop μ-loop
 returns c =
-    found (c .before .before .before .before .loop .inv) _ (c .before .wide .ensures) (search needs) (search needs)
+    found (c .before .before .before .before .loop .inv) _ (c .before .as-usize .ensures) (search needs) (search needs)
 
 add-i : tie.Need-add-i Inv-loop μ-loop
 add-i c = search needs
@@ -37,7 +37,7 @@ loop-less c = search needs
 
 loop-again : tie.Need-loop-again Inv-loop μ-loop
 loop-again c =
-    step (c .before .before .before .before .loop .inv) _ (c .before .wide .ensures) (search needs) (search needs)
+    step (c .before .before .before .before .loop .inv) _ (c .before .as-usize .ensures) (search needs) (search needs)
 
 returns-2 : tie.Need-returns-2 Inv-loop μ-loop
 returns-2 c = finish (c .before .loop .inv) (c .loop-test .left)
@@ -50,8 +50,8 @@ out-of-range-spec =
     μ-loop
     shl-limit
     loop-holds
-    shared-slice-read-wide
-    wide-requires
+    shared-slice-read-as-usize
+    as-usize-requires
     returns
     add-i
     loop-less

@@ -42,11 +42,11 @@ loop-less c = simp length-set (omega arith)
 loop-again : tie.Need-loop-again Inv-loop μ-loop
 loop-again c = emit (c .before .before .loop .inv) (c .if1 .taken) (c .before .loop-test .taken)
 
-shared-slice-read-wide : tie.Need-shared-slice-read-wide Inv-loop μ-loop
-shared-slice-read-wide c = search needs
+shared-slice-read-as-usize : tie.Need-shared-slice-read-as-usize Inv-loop μ-loop
+shared-slice-read-as-usize c = search needs
 
-wide-requires : tie.Need-wide-requires Inv-loop μ-loop
-wide-requires c κs = search needs
+as-usize-requires : tie.Need-as-usize-requires Inv-loop μ-loop
+as-usize-requires c κs = search needs
 
 shl-acc : tie.Need-shl-acc Inv-loop μ-loop
 shl-acc c = search needs
@@ -54,7 +54,7 @@ shl-acc c = search needs
 again : tie.Need-loop-again-2 Inv-loop μ-loop
 again c =
     read (c .before .before .before .before .before .loop .inv) (c .before .before .before .if1 .left) (search needs) (search needs)
-    (c .before .before .if2 .taken) (c .wide .ensures)
+    (c .before .before .if2 .taken) (c .as-usize .ensures)
 
 add-acc : tie.Need-add-acc Inv-loop μ-loop
 add-acc c = record { fits = fits (again c) }
@@ -98,8 +98,8 @@ regroup-spec =
     add-j
     loop-less
     loop-again
-    shared-slice-read-wide
-    wide-requires
+    shared-slice-read-as-usize
+    as-usize-requires
     shl-acc
     add-acc
     add-have

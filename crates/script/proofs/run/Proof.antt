@@ -1,7 +1,7 @@
 -- `script::run` meets its contract. Assumes nothing.
 use borrow.Author.Needs.{needs}
 use Rattle.text.proofs.Lengths.{text-short}
-use Rattle.script.proofs.Saying.{said-alone, fine, inside, slots-fine, started, at-fault, said-as, refusal-fits}
+use Rattle.script.proofs.Saying.{said-alone, fine, inside, slots-fine, refused, accepted, at-fault, said-as, refusal-fits}
 use Rattle.script.proofs.run.Statement.{statement}
 use Rattle.script.proofs.run.Tie as tie
 
@@ -40,20 +40,8 @@ part-start-end c = inside _ (c .before .before .fault .ensures) (c .before .if1 
 start-requires : tie.Need-start-requires
 start-requires c κs = search needs
 
-enum-told : tie.Need-enum-told
-enum-told c = search needs
-
-lines-requires : tie.Need-lines-requires
-lines-requires c κs =
-    let book = c .before .before .before .before .before .before in
-    let test = book .before in
-    let checked = fine _ (test .before .fault .ensures) (test .if1 .left) in (
-      (inside _ (test .before .fault .ensures) (test .if1 .left) _ (book .slots-at .ensures), checked .most),
-      slots-fine _ (test .before .fault .ensures) (test .if1 .left) _ (book .slots-at .ensures),
-    )
-
-enum-known-verdict : tie.Need-enum-known-verdict
-enum-known-verdict c = search needs
+number-requires : tie.Need-number-requires
+number-requires c κs = search needs
 
 book-refused-requires : tie.Need-book-refused-requires
 book-refused-requires c κs = search needs
@@ -67,13 +55,24 @@ same-length-2 c = search needs
 returns-2 : tie.Need-returns-2
 returns-2 c =
     let said = c .before .before in
-    let begun = said .before .before .before .before .before in
+    let told = said .before .before in
+    let asked = told .before .before in
+    let begun = asked .before in
     let book = begun .before .before in
     let test = book .before in
-    said-as (test .before .before .before .before .args .out .now)
-    (started _ (test .before .fault .ensures) (test .if1 .left) _ (book .slots-at .ensures) (begun .start .ensures .0)
-    (said .before .before .enum-told .given .1))
-    (said .lines .ensures .0) (said .lines .ensures .1)
+    said-alone _ (test .before .before .before .before .args .out .now)
+    (refused _ (test .before .fault .ensures) (test .if1 .left) _ (book .slots-at .ensures) (begun .start .ensures .0)
+    (asked .number .ensures) (told .before .if2 .taken))
+    (refusal-fits _) (told .book-refused .ensures) (said .put2 .ensures .0) (said .put2 .ensures .1)
+
+lines-requires : tie.Need-lines-requires
+lines-requires c κs =
+    let book = c .before .before .before .before .before .before in
+    let test = book .before in
+    let checked = fine _ (test .before .fault .ensures) (test .if1 .left) in (
+      (inside _ (test .before .fault .ensures) (test .if1 .left) _ (book .slots-at .ensures), checked .most),
+      slots-fine _ (test .before .fault .ensures) (test .if1 .left) _ (book .slots-at .ensures),
+    )
 
 same-length-3 : tie.Need-same-length-3
 same-length-3 c = search needs
@@ -81,14 +80,15 @@ same-length-3 c = search needs
 returns-3 : tie.Need-returns-3
 returns-3 c =
     let said = c .before .before in
-    let told = said .before .before in
-    let begun = told .before .before .before .before .before in
+    let passed = said .before .before .before in
+    let asked = passed .before in
+    let begun = asked .before in
     let book = begun .before .before in
     let test = book .before in
-    said-alone _ (test .before .before .before .before .args .out .now)
-    (started _ (test .before .fault .ensures) (test .if1 .left) _ (book .slots-at .ensures) (begun .start .ensures .0)
-    (told .before .before .verdict .given .1))
-    (refusal-fits _) (told .book-refused .ensures) (said .put2 .ensures .0) (said .put2 .ensures .1)
+    said-as (test .before .before .before .before .args .out .now)
+    (accepted _ (test .before .fault .ensures) (test .if1 .left) _ (book .slots-at .ensures) (begun .start .ensures .0)
+    (asked .number .ensures) (passed .if2 .left))
+    (said .lines .ensures .0) (said .lines .ensures .1)
 
 pub run-spec : {M : Type 1} → statement M
 run-spec =
@@ -104,12 +104,11 @@ run-spec =
     part-start-start
     part-start-end
     start-requires
-    enum-told
-    lines-requires
-    enum-known-verdict
+    number-requires
     book-refused-requires
     put-requires-2
     same-length-2
     returns-2
+    lines-requires
     same-length-3
     returns-3)

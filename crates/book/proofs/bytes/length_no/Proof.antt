@@ -4,9 +4,6 @@ use Rattle.book.proofs.Header.{lengths}
 use Rattle.book.proofs.bytes.length_no.Statement.{statement}
 use Rattle.book.proofs.bytes.length_no.Tie as tie
 
-wide-requires : tie.Need-wide-requires
-wide-requires c κs = search needs
-
 entry-start-requires : tie.Need-entry-start-requires
 entry-start-requires c κs = search needs
 
@@ -21,4 +18,4 @@ returns-3 c = search lengths
 
 pub length-no-spec : {M : Type 1} → statement M
 length-no-spec =
-    tie.close (tie.spec wide-requires entry-start-requires returns returns-2 returns-3)
+    tie.close (tie.spec entry-start-requires returns returns-2 returns-3)

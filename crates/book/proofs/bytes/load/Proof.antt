@@ -8,10 +8,10 @@ use Rattle.book.proofs.bytes.load.Statement.{statement}
 use Rattle.book.proofs.bytes.load.Tie as tie
 
 abbrev Inv-loop : tie.InvT-loop
-Inv-loop s n es₀ i₀ es i = (i ≤ n) × (es ≡ keptEntries s i)
+Inv-loop version s n es₀ i₀ es i = (i ≤ n) × (es ≡ keptEntries version s i)
 
 abbrev μ-loop : tie.MeasureT-loop
-μ-loop s n es₀ i₀ es i = n - i
+μ-loop version s n es₀ i₀ es i = n - i
 
 loop-holds : tie.Need-loop-holds Inv-loop μ-loop
 unfolding keptEntries entriesOf

@@ -13,17 +13,8 @@ is-mark-requires c κs = search needs
 returns-2 : tie.Need-returns-2
 returns-2 c = search starts
 
-shared-slice-read-word : tie.Need-shared-slice-read-word
-shared-slice-read-word c = search needs
-
-add-word : tie.Need-add-word
-add-word c = search needs
-
-shared-slice-read-word-2 : tie.Need-shared-slice-read-word-2
-shared-slice-read-word-2 c = search needs
-
-word-requires : tie.Need-word-requires
-word-requires c κs = search needs
+version-in-requires : tie.Need-version-in-requires
+version-in-requires c κs = search needs
 
 returns-3 : tie.Need-returns-3
 returns-3 c = search starts
@@ -38,9 +29,6 @@ start-no-spec =
     returns
     is-mark-requires
     returns-2
-    shared-slice-read-word
-    add-word
-    shared-slice-read-word-2
-    word-requires
+    version-in-requires
     returns-3
     returns-4)

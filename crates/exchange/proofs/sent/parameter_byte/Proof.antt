@@ -4,17 +4,14 @@ use borrow.Author.Needs.{needs}
 use Rattle.exchange.proofs.sent.parameter_byte.Statement.{statement}
 use Rattle.exchange.proofs.sent.parameter_byte.Tie as tie
 
-wide-requires : tie.Need-wide-requires
-wide-requires c κs = search needs
-
 parameter-bytes-requires : tie.Need-parameter-bytes-requires
 parameter-bytes-requires c κs = search needs
 
 parameter-lead-requires : tie.Need-parameter-lead-requires
 parameter-lead-requires c κs = search needs
 
-wide-requires-2 : tie.Need-wide-requires-2
-wide-requires-2 c κs = search needs
+cast-lead : tie.Need-cast-lead
+cast-lead c = search needs
 
 div-k : tie.Need-div-k
 div-k c = search needs
@@ -41,10 +38,9 @@ pub parameter-byte-spec : {M : Type 1} → statement M
 parameter-byte-spec =
     tie.close
     (tie.spec
-    wide-requires
     parameter-bytes-requires
     parameter-lead-requires
-    wide-requires-2
+    cast-lead
     div-k
     rem-place
     sgp-requires

@@ -1,5 +1,5 @@
 -- `exchange::sent::value_at` meets its contract. Assumes nothing.
-use Rattle.exchange.proofs.PastEnd.{read-past}
+use Rattle.ground.proofs.PastEnd.{read-past}
 use borrow.Author.Needs.{needs}
 use Rattle.exchange.proofs.sent.value_at.Statement.{statement}
 use Rattle.exchange.proofs.sent.value_at.Tie as tie

@@ -1,12 +1,21 @@
 -- `fresh_line` is `freshLine`. Assumes nothing.
-use mathlib.Core.Path.{refl}
 use Rattle.protocol.specs.Opened.{freshLine}
+use borrow.Author.Needs.{needs}
 use Rattle.opened.proofs.line.fresh_line.Statement.{statement}
 use Rattle.opened.proofs.line.fresh_line.Tie as tie
 
+idle-leads-requires : tie.Need-idle-leads-requires
+idle-leads-requires c κs = search needs
+
+outbound-of-requires : tie.Need-outbound-of-requires
+outbound-of-requires c κs = search needs
+
+inbound-of-requires : tie.Need-inbound-of-requires
+inbound-of-requires c κs = search needs
+
 returns : tie.Need-returns
 unfolding freshLine
-returns c = refl
+returns c = simp (c .inbound-of .ensures, c .before .outbound-of .ensures, c .before .before .idle-leads .ensures)
 
 pub fresh-line-spec : {M : Type 1} → statement M
-fresh-line-spec = tie.close (tie.spec returns)
+fresh-line-spec = tie.close (tie.spec idle-leads-requires outbound-of-requires inbound-of-requires returns)

@@ -1,5 +1,8 @@
 -- `reads_pair` is `readsPair`. Assumes nothing.
+use mathlib.Core.Path.{ap, _∙_}
 use borrow.Author.Needs.{needs}
+use Rattle.opened.specs.OpenMade.{readingMade}
+use Rattle.opened.proofs.OtherKinds.{rest-pair}
 use Rattle.opened.proofs.reading.reads_pair.Statement.{statement}
 use Rattle.opened.proofs.reading.reads_pair.Tie as tie
 
@@ -27,23 +30,8 @@ enum-known-k-3 c = search needs
 reads-sd-requires : tie.Need-reads-sd-requires
 reads-sd-requires c κs = search needs
 
-enum-told : tie.Need-enum-told
-enum-told c = search needs
-
 quiet-requires : tie.Need-quiet-requires
 quiet-requires c κs = search needs
-
-enum-told-2 : tie.Need-enum-told-2
-enum-told-2 c = search needs
-
-quiet-requires-2 : tie.Need-quiet-requires-2
-quiet-requires-2 c κs = search needs
-
-enum-told-3 : tie.Need-enum-told-3
-enum-told-3 c = search needs
-
-quiet-requires-3 : tie.Need-quiet-requires-3
-quiet-requires-3 c κs = search needs
 
 returns : tie.Need-returns
 returns c = simp (c .seeks .ensures, c .before .pair-begun .ensures, c .before .before .before .k .given .1)
@@ -55,13 +43,7 @@ returns-3 : tie.Need-returns-3
 returns-3 c = simp (c .reads-sd .ensures, c .before .before .k3 .given .1)
 
 returns-4 : tie.Need-returns-4
-returns-4 c = simp (c .quiet .ensures, c .before .enum-told .given .1)
-
-returns-5 : tie.Need-returns-5
-returns-5 c = simp (c .quiet2 .ensures, c .before .enum-told2 .given .1)
-
-returns-6 : tie.Need-returns-6
-returns-6 c = simp (c .quiet3 .ensures, c .before .enum-told3 .given .1)
+returns-4 c = c .quiet .ensures ∙ ap readingMade (rest-pair (c .before .before .args .i) (c .before .before .args .k) (c .before .match .keys4))
 
 pub reads-pair-spec : {M : Type 1} → statement M
 reads-pair-spec =
@@ -75,15 +57,8 @@ reads-pair-spec =
     seeks-requires-2
     enum-known-k-3
     reads-sd-requires
-    enum-told
     quiet-requires
-    enum-told-2
-    quiet-requires-2
-    enum-told-3
-    quiet-requires-3
     returns
     returns-2
     returns-3
-    returns-4
-    returns-5
-    returns-6)
+    returns-4)

@@ -6,8 +6,11 @@ use Rattle.opened.proofs.reading.reads_sd.Tie as tie
 agreed-signals-requires : tie.Need-agreed-signals-requires
 agreed-signals-requires c κs = search needs
 
+inbound-of-requires : tie.Need-inbound-of-requires
+inbound-of-requires c κs = search needs
+
 returns : tie.Need-returns
-returns c = simp (c .agreed-signals .ensures)
+returns c = simp (c .inbound-of .ensures, c .before .agreed-signals .ensures)
 
 pub reads-sd-spec : {M : Type 1} → statement M
-reads-sd-spec = tie.close (tie.spec agreed-signals-requires returns)
+reads-sd-spec = tie.close (tie.spec agreed-signals-requires inbound-of-requires returns)

@@ -1,6 +1,9 @@
 -- `reads_word` is `readsWord`. Assumes nothing.
+use mathlib.Core.Path.{ap, _∙_}
 use borrow.Author.Needs.{needs}
 use Rattle.protocol.specs.Opened.{readsWord}
+use Rattle.opened.specs.OpenMade.{readingMade}
+use Rattle.opened.proofs.OtherKinds.{rest-word}
 use Rattle.opened.proofs.reading.reads_word.Statement.{statement}
 use Rattle.opened.proofs.reading.reads_word.Tie as tie
 
@@ -22,23 +25,8 @@ enum-known-k-3 c = search needs
 reads-sd-requires : tie.Need-reads-sd-requires
 reads-sd-requires c κs = search needs
 
-enum-told : tie.Need-enum-told
-enum-told c = search needs
-
 quiet-requires : tie.Need-quiet-requires
 quiet-requires c κs = search needs
-
-enum-told-2 : tie.Need-enum-told-2
-enum-told-2 c = search needs
-
-quiet-requires-2 : tie.Need-quiet-requires-2
-quiet-requires-2 c κs = search needs
-
-enum-told-3 : tie.Need-enum-told-3
-enum-told-3 c = search needs
-
-quiet-requires-3 : tie.Need-quiet-requires-3
-quiet-requires-3 c κs = search needs
 
 returns : tie.Need-returns
 unfolding readsWord
@@ -53,16 +41,7 @@ unfolding readsWord
 returns-3 c = simp (c .reads-sd .ensures, c .before .before .k3 .given .1)
 
 returns-4 : tie.Need-returns-4
-unfolding readsWord
-returns-4 c = simp (c .quiet .ensures, c .before .enum-told .given .1)
-
-returns-5 : tie.Need-returns-5
-unfolding readsWord
-returns-5 c = simp (c .quiet2 .ensures, c .before .enum-told2 .given .1)
-
-returns-6 : tie.Need-returns-6
-unfolding readsWord
-returns-6 c = simp (c .quiet3 .ensures, c .before .enum-told3 .given .1)
+returns-4 c = c .quiet .ensures ∙ ap readingMade (rest-word (c .before .before .args .i) (c .before .before .args .w) (c .before .before .args .k) (c .before .match .keys4))
 
 pub reads-word-spec : {M : Type 1} → statement M
 reads-word-spec =
@@ -74,15 +53,8 @@ reads-word-spec =
     reads-high-requires
     enum-known-k-3
     reads-sd-requires
-    enum-told
     quiet-requires
-    enum-told-2
-    quiet-requires-2
-    enum-told-3
-    quiet-requires-3
     returns
     returns-2
     returns-3
-    returns-4
-    returns-5
-    returns-6)
+    returns-4)

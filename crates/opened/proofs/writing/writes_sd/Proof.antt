@@ -1,6 +1,6 @@
 -- `writes_sd` is `writesSd`. Assumes nothing.
-use borrow.Author.Needs.{needs}
 use Rattle.protocol.specs.Sent.{byteSent}
+use borrow.Author.Needs.{needs}
 use Rattle.opened.proofs.writing.writes_sd.Statement.{statement}
 use Rattle.opened.proofs.writing.writes_sd.Tie as tie
 
@@ -10,9 +10,12 @@ bk-sent-requires c κs = search needs
 sd-requires : tie.Need-sd-requires
 sd-requires c κs = search needs
 
+outbound-of-requires : tie.Need-outbound-of-requires
+outbound-of-requires c κs = search needs
+
 returns : tie.Need-returns
 unfolding byteSent
-returns c = simp (c .sd .ensures, c .before .bk-sent .ensures)
+returns c = simp (c .outbound-of .ensures, c .before .sd .ensures, c .before .before .bk-sent .ensures)
 
 pub writes-sd-spec : {M : Type 1} → statement M
-writes-sd-spec = tie.close (tie.spec bk-sent-requires sd-requires returns)
+writes-sd-spec = tie.close (tie.spec bk-sent-requires sd-requires outbound-of-requires returns)

@@ -19,23 +19,27 @@ is-on-requires-4 c κs = search needs
 is-on-requires-5 : tie.Need-is-on-requires-5
 is-on-requires-5 c κs = search needs
 
+is-on-requires-6 : tie.Need-is-on-requires-6
+is-on-requires-6 c κs = search needs
+
 offer-requires : tie.Need-offer-requires
 offer-requires c κs = search needs
 
-is-on-requires-6 : tie.Need-is-on-requires-6
-is-on-requires-6 c κs = search needs
+drive-with-requires : tie.Need-drive-with-requires
+drive-with-requires c κs = search needs
 
 returns : tie.Need-returns
 unfolding driveOf
 returns c =
     simp (
-      c .before .before .before .before .before .before .is-on .ensures,
-      c .before .before .before .before .before .is-on2 .ensures,
-      c .before .before .before .before .is-on3 .ensures,
-      c .before .before .before .is-on4 .ensures,
-      c .is-on6 .ensures,
+      c .drive-with .ensures,
       c .before .offer .ensures,
-      c .before .before .is-on5 .ensures,
+      c .before .before .is-on6 .ensures,
+      c .before .before .before .is-on5 .ensures,
+      c .before .before .before .before .is-on4 .ensures,
+      c .before .before .before .before .before .is-on3 .ensures,
+      c .before .before .before .before .before .before .is-on2 .ensures,
+      c .before .before .before .before .before .before .before .is-on .ensures,
     )
 
 pub drive-spec : {M : Type 1} → statement M
@@ -47,6 +51,7 @@ drive-spec =
     is-on-requires-3
     is-on-requires-4
     is-on-requires-5
-    offer-requires
     is-on-requires-6
+    offer-requires
+    drive-with-requires
     returns)

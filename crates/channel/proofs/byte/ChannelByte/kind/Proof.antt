@@ -32,6 +32,9 @@ returns-6 c = kind-said _ (search needs) (search (kinds, needs))
 returns-7 : tie.Need-returns-7
 returns-7 c = kind-said _ (search needs) (search (kinds, needs))
 
+returns-8 : tie.Need-returns-8
+returns-8 c = kind-said _ (search needs) (search (kinds, needs))
+
 pub kind-spec : {M : Type 1} → statement M
 kind-spec =
     tie.close
@@ -44,4 +47,5 @@ kind-spec =
     returns-4
     returns-5
     returns-6
-    returns-7)
+    returns-7
+    returns-8)

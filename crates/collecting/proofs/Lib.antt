@@ -1,0 +1,5 @@
+pub mod DueBytes
+pub mod InGroup
+pub mod OtherKinds
+pub mod EightBits
+pub mod OneReply

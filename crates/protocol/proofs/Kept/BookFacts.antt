@@ -1,0 +1,21 @@
+-- What a book that passes the checks has, as the proofs here ask for it. Assumes nothing.
+use mathlib.Core.Path.{_≡_}
+use mathlib.Core.Bool.{true}
+use Prim.Native.Nat.{_<_, _≤_}
+use native.Mathlib.Omega.{arith}
+use Rattle.book.specs.declared.Book.{Book}
+use Rattle.book.specs.Refusals.{leastLimit}
+use Rattle.book.specs.Kept.{bookOk}
+use Rattle.book.proofs.Kept.{kept}
+use Rattle.protocol.specs.Exchange.{identifier}
+
+module _ (b : Book) (ok : bookOk b ≡ true) where
+  pub limit-least : leastLimit ≤ b .limit
+  limit-least = kept b ok .limit
+
+  pub has-entry : 0 < b .n
+  has-entry = kept b ok .some
+
+  pub identifier-small : identifier b < 256
+  unfolding identifier
+  identifier-small = omega (arith, kept b ok .mask-most)

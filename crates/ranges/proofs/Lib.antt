@@ -1,0 +1,3 @@
+pub mod AllBelow
+pub mod HighNibble
+pub mod OneReply
