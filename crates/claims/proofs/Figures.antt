@@ -9,6 +9,7 @@ use lib.Dec.{eqb}
 use lib.ListN.{length, replicate}
 use Rattle.ground.specs.Digits.{allBelow}
 use Rattle.ground.specs.Lists.{isAmong}
+use Rattle.ground.proofs.Figures.{AmongAsListed, among-as-listed}
 use Rattle.channel.specs.Bytes.{signalling, sgvi, sgr, sdidle, sdByte}
 use Rattle.channel.specs.Kinds.{kindNumber, kindOf, howMany}
 use Rattle.channel.specs.Forms.{unitByte, sameBothWays}
@@ -61,6 +62,7 @@ pub record ChannelHeld : Type 0 where
   pub idle : sdByte (record { s0 = false; s1 = false; s2 = true; s3 = false }) false ≡ sdidle
   -- the versions of form 7 lay 16 units alike, and no other
   pub orders : (u : ℕ) → u < 128 → eqb (unitByte SevenV1 u) (unitByte SevenV2 u) ≡ isAmong u sameBothWays
+  pub among : AmongAsListed
 
 channel-held : ChannelHeld
 channel-held =
@@ -78,6 +80,7 @@ channel-held =
       restart = sgr-read;
       idle = sdidle-is;
       orders = versions-agree;
+      among = among-as-listed;
     }
 
 pub record PackingHeld : Type 0 where

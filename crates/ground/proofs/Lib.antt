@@ -5,3 +5,4 @@ pub mod EachBool
 pub mod Table
 pub mod Lists
 pub mod PastEnd
+pub mod Figures

@@ -1,5 +1,6 @@
 -- The worked figures of the joined pair, and the sample of a run, by computation. Assumes nothing.
 use mathlib.Core.Path.{_≡_, refl}
+use mathlib.Core.Bool.{true, false}
 use mathlib.Core.List.{List, [], _∷_, _++_}
 use Prim.Native.Nat.{ℕ, zero, suc}
 use lib.ListN.{replicate}
@@ -15,6 +16,7 @@ use Rattle.protocol.proofs.Computing.{computing}
 use Rattle.protocol.specs.declared.Awaited.{Awaited}
 use Rattle.protocol.specs.declared.Awaited.the-variants.{Run, Group}
 use Rattle.protocol.specs.declared.Endpoint.{Endpoint}
+use Rattle.protocol.specs.declared.Offer.the-variants as offer
 use Rattle.protocol.specs.declared.Outcome.{Outcome}
 use Rattle.protocol.specs.declared.Outcome.the-variants.{Open, Refused}
 
@@ -48,6 +50,8 @@ abbrev awaitsAfter : List ℕ → Awaited
 awaitsAfter bytes = awaitedBy (hears bytes (started (bookFor answering 3 500)) .phase)
 
 pub record PairFigures : Type 0 where
+  -- each end is given leads 0100, no break and no unit
+  pub given : idle ≡ record { leads = record { s0 = false; s1 = false; s2 = true; s3 = false }; flag = false; offer = offer.Nothing }
   -- both masks 3, limit 500, delay 1: O open 424, A open 423
   pub opens-424-423 : reports 425 (pair 3 3 500 1) ≡ opened 424 ∷ opened 423 ∷ []
   -- with masks 1 and 2: O refused 21 43, A refused 21 44
@@ -65,6 +69,7 @@ pub pair-figures : PairFigures
 unfolding computing
 pair-figures =
     record {
+      given = refl;
       opens-424-423 = refl;
       refused-43-44 = refl;
       opens-429-427 = refl;
