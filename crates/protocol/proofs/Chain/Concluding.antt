@@ -37,7 +37,7 @@ use Rattle.protocol.proofs.Chain.Sender.{settled, masks, mask-on, param
 use Rattle.protocol.proofs.Chain.Collects.{Rests, Collected, collected}
 use Rattle.protocol.proofs.Chain.Settling.{o-settles, o-parameters, a-settles, a-idle}
 
--- an answerer after its mask, and an originator after its parameters, send Sdidle until all parameters of the other end have come
+-- an answerer after its identifier, and an originator after its parameters, send Sdidle until all parameters of the other end have come
 rests-a : (b : Book) → Rests (asA b) Idle
 unfolding slots
 rests-a b = record { rests = λ h g v e f. rw (e, f) }
@@ -150,7 +150,7 @@ module _ {d a h n : ℕ} {bo ba : Book}
   turn-slot : parametersO h d + all-o - 1 + d ≡ turns
   turn-slot = omega arith
 
-  -- A sends Sdidle from its mask to there
+  -- A sends Sdidle from its identifier to there
   pub a-idled : During (masksA h d + 6) turns (λ t. oa t ≡ Says (Alone sdidle))
   a-idled =
       join (parametersO h d + d) (λ t hx hy. a-idle m small small-o shared t hx (omega arith))
@@ -233,7 +233,7 @@ module _ {d a h n : ℕ} {bo ba : Book}
       (λ i hi. ap (λ q. q .to) (parameter-on bo (common bo ba) _ _ (ho (parametersO h d + i)) refl (same-o (parametersO h d + i) (omega arith) (omega (arith, m .ahead))) i (omega arith))
       ∙ ap (λ j. Talks (settled (hearing (Run 1 0) (identified (idA ba))) (common bo ba) (Parameters j))) (add-one i)) (all-o - 1) (le-refl _)
 
-  -- O's own are all sent before slot h + 2 d + 41 + all-o
+  -- O's own are all sent before slot parametersO + all-o
   pub o-done : so (parametersO h d + all-o) ≡ Talks (settled (hearing (Run 1 0) (identified (idA ba))) (common bo ba) Done)
   o-done =
       let z : suc (parametersO h d + (all-o - 1)) ≡ parametersO h d + all-o = omega arith in

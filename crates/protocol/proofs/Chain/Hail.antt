@@ -29,7 +29,7 @@ waitO c = Talks (talk (Run 0 c) noValues 0 Idle)
 abbrev pub hailA : ℕ → ℕ → Core
 hailA m c = Talks (talk (Run 0 c) noValues 0 (Hail m))
 
--- an originator that sends Sgvi, so many gone; an answerer of whose mask i + 1 bytes have gone, or all six
+-- an originator that sends Sgvi, so many gone; an answerer of whose identifier i + 1 bytes have gone, or all six
 abbrev pub askO : ℕ → Core
 askO m = Talks (talk (Group 0 0) noValues 0 (Hail m))
 
@@ -95,7 +95,7 @@ module _ (b : Book) where
       go true r = rw (hail-more c m k (omega arith) r) (hailsA (c + 1) (min (m + 1) 16) (omega arith) refl, refl)
       go false r = rw (hail-again c m k r) (hailsA 0 (min (m + 1) 16) (omega arith) refl, refl)
 
-  -- the sixteenth Sgvi: an originator begins to send Sgvi, an answerer its mask
+  -- the sixteenth Sgvi: an originator begins to send Sgvi, an answerer its identifier
   pub wait-over : core (asO b) (waitO 15) Sgvi ≡ record { to = askO 1; out = Says (Alone sgvi) }
   unfolding moving
   wait-over = refl
@@ -109,7 +109,7 @@ module _ (b : Book) where
   unfolding moving
   ask-more m = refl
 
-  -- an answerer that sends its mask, or has sent it, and hears Sgvi
+  -- an answerer that sends its identifier, or has sent it, and hears Sgvi
   pub mask-more : (i : ℕ) → i < 5 → core (asA b) (maskA i) Sgvi ≡ record { to = maskA (suc i); out = Says (Part (suc i) (idA b)) }
   unfolding moving
   mask-more zero h = refl

@@ -86,7 +86,7 @@ module _ {d a h n : ℕ} {bo ba : Book}
       subst (λ t. HailsA 0 (sa t)) (omega (arith, m .apart))
       (keep (m .runsA) (λ j u. HailsA 0 u) (λ j. Says (Alone sgvi)) (hailsO h + d - a) a (le-refl a) (m .hails) a-again (hailsO h + d - a) (le-refl _))
 
-  -- and sends Sgvi before slot masksA h d, whatever it hears in the last fifteen
+  -- and sends Sgvi before slot masksA, whatever it hears in the last fifteen
   a-says : During a (masksA h d) (λ t. oa t ≡ Says (Alone sgvi))
   a-says =
       join (hailsO h + d)
@@ -118,7 +118,7 @@ module _ {d a h n : ℕ} {bo ba : Book}
       one-said (m .runsO) (hailsO h) (waitO 15) Sgvi (omega arith) o-waited (o-hears (hailsO h) (omega arith) (omega (arith, m .ahead)))
       ∙ ap (λ q. q .out) (wait-over bo)
 
-  -- and by slot h + 2 d + 30 it has sent 16 Sgvi
+  -- and by slot masksA + d, in which A's identifier begins to arrive, it has sent 16 Sgvi
   ask-on : (i : ℕ) → i < 2 * d + 14 → core (asO bo) (askO (min (i + 1) 16)) Sgvi .to ≡ askO (min (suc i + 1) 16)
   ask-on i hi = let z : min (min (i + 1) 16 + 1) 16 ≡ min (suc i + 1) 16 = omega arith in ap (λ q. q .to) (ask-more bo (min (i + 1) 16)) ∙ ap askO z
 
@@ -132,7 +132,7 @@ module _ {d a h n : ℕ} {bo ba : Book}
       (climb (m .runsO) (λ i. askO (min (i + 1) 16)) (λ i. Sgvi) (hailsO h + 1) (2 * d + 14) (omega arith) asked
       (λ i hi. o-hears (hailsO h + 1 + i) (omega arith) (omega arith)) ask-on (2 * d + 14) (le-refl _) ∙ ap askO z)
 
-  -- O sends Sgvi from slot hailsO h to slot h + 2 d + 34, whatever it hears in the last five
+  -- O sends Sgvi from slot hailsO up to slot masksO, whatever it hears in the last five
   o-says : During (hailsO h) (masksO h d) (λ t. oo t ≡ Says (Alone sgvi))
   o-says =
       join (hailsO h + 1)
@@ -145,12 +145,12 @@ module _ {d a h n : ℕ} {bo ba : Book}
       (λ i hi. keep-said (m .runsO) AsksO (λ j. Says (Alone sgvi)) 5 (masksA h d + d) (omega arith) (asksO 0 _ (le-refl 0) o-asking)
       (λ j u hj q. ask-rises bo j u (ho (masksA h d + d + j)) hj q) i hi) t hx (omega arith)))
 
-  -- A hears Sgvi from slot hailsO h + d to slot h + 3 d + 34
+  -- A hears Sgvi from slot hailsO + d up to slot masksO + d
   pub a-hears : During (hailsO h + d) (masksO h d + d) (λ t. ha t ≡ Sgvi)
   a-hears t hx hy =
       arrive (m .toA) (hailsO h) (masksO h d) sgvi (omega arith) (omega (arith, m .room)) o-says t (omega arith) (omega arith) ∙ sgvi-kind
 
-  -- A's run is complete with slot masksA h d
+  -- A's run is complete with slot masksA
   a-counts : HailsAt 15 (sa (masksA h d))
   a-counts =
       subst (λ t. HailsAt 15 (sa t)) (omega arith)
@@ -173,7 +173,7 @@ module _ {d a h n : ℕ} {bo ba : Book}
   a-masks : (sa (masksA h d + 1) ≡ maskA 0) × (oa (masksA h d) ≡ Says (Part 0 (idA ba)))
   a-masks = a-over (sa (masksA h d)) refl a-counts
 
-  -- A's mask goes in the slots masksA h d to h + d + 35
+  -- A's identifier goes in slot masksA and the five after it
   pub a-mask : (j : ℕ) → j < 6 → oa (masksA h d + j) ≡ Says (Part j (idA ba))
   a-mask zero hj = rw add-zero (a-masks .1)
   a-mask (suc j) hj =

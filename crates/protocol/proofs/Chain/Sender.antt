@@ -1,4 +1,4 @@
--- What an originator sends from its mask on does not depend on what it hears. Assumes nothing.
+-- What an originator sends from its identifier on does not depend on what it hears. Assumes nothing.
 use mathlib.Core.Path.{_≡_, refl}
 use mathlib.Core.Bool.{true, false, cond, _&&_}
 use Prim.Native.Nat.{ℕ, zero, suc, _+_, _<_}
@@ -36,7 +36,7 @@ pub data SendsO (v : ℕ) (s : Sending) (u : Core) : Type 0 where
 abbrev pub settled : Hearing → ℕ → Sending → Exchange
 settled h v s = record { hearing = h; version = v; sending = s }
 
--- i + 1 bytes of the mask have gone
+-- i + 1 bytes of the identifier have gone
 abbrev pub masks : ℕ → Sending
 masks i = cond (ltb i 5) (Mask (suc i)) (Parameters 0)
 
@@ -53,7 +53,7 @@ module _ (b : Book) (v : ℕ) (h g : Hearing) (k : Kind) (e : hasIdentifier (h .
   mask-on z (suc (suc (suc (suc zero)))) l = rw (heard-as (asO b) (settled h v (Mask 5)) k g q) (rw (e, z))
   mask-on z (suc (suc (suc (suc (suc i))))) l = absurd (omega arith)
 
-  -- where no version is shared the mask is 00, and 21 is refused with its sixth byte
+  -- where no version is shared the identifier sent is 00, and 21 is refused with its sixth byte
   lack-on : v ≡ 0 → (i : ℕ) → i < 4
       → core (asO b) (Talks (settled h v (Mask (suc i)))) k
       ≡ record { to = Talks (settled g v (Mask (suc (suc i)))); out = Says (Part (suc i) 0) }

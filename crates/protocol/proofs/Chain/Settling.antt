@@ -1,4 +1,4 @@
--- The versions are settled: from the answerer's mask to the slot in which the answerer has the originator's. Assumes nothing.
+-- The versions are settled: from the answerer's identifier to the slot in which the answerer has the originator's. Assumes nothing.
 use mathlib.Core.Path.{_≡_, refl, ap, _∙_, subst}
 use mathlib.Core.Bool.{false, and-comm, and-false}
 use mathlib.Core.List.{[], _∷_}
@@ -63,7 +63,7 @@ idle-said b g (suc (suc (suc (suc (suc i))))) h = absurd (omega arith)
 module _ {d a h n : ℕ} {bo ba : Book}
     {so sa : ℕ → Core} {ho ha : ℕ → Kind} {oo oa : ℕ → Said}
     (m : Meeting d a h n bo ba so sa ho ha oo oa) (small : idA ba < 256) where
-  -- A's mask arrives at O in the slots h + 2 d + 30 to h + 2 d + 35
+  -- A's identifier arrives at O in slot masksA + d and the five after it
   o-group : GroupHeard (idA ba) ho (masksA h d + d)
   o-group = subst (GroupHeard (idA ba) ho) (omega arith) (m .toO .group (masksA h d) (idA ba) (omega (arith, m .apart)) (omega (arith, m .room)) small (a-mask m))
 
@@ -71,7 +71,7 @@ module _ {d a h n : ℕ} {bo ba : Book}
   unfolding moving walk
   o-walk = rw (o-group .votes)
 
-  -- O settles the version in slot h + 2 d + 35, and sends the first byte of its own mask
+  -- O settles the version in slot masksO, and sends the first byte of its own identifier
   pub o-settles : so (masksO h d + 1) ≡ Talks (talk (Run 1 0) (identified (idA ba)) (common bo ba) (Mask 1))
   o-settles =
       subst (λ t. so t ≡ Talks (talk (Run 1 0) (identified (idA ba)) (common bo ba) (Mask 1))) (omega arith)
@@ -89,7 +89,7 @@ module _ {d a h n : ℕ} {bo ba : Book}
 
   -- Where a version is shared.
   module _ (small-o : idO bo < 256) (shared : eqb (common bo ba) 0 ≡ false) where
-    -- O's mask goes in the slots h + 2 d + 35 to h + 2 d + 40
+    -- O's identifier goes in slot masksO and the five after it
     pub o-mask : (j : ℕ) → j < 6 → oo (masksO h d + j) ≡ Says (Part j (idO bo))
     unfolding moving
     o-mask zero l = rw add-zero (rw shared at o-first)
@@ -106,7 +106,7 @@ module _ {d a h n : ℕ} {bo ba : Book}
         (sendsO (hearing (Run 1 0) (identified (idA ba))) refl o-settles)
         (λ i u hi q. mask-sends bo (common bo ba) shared i u (ho (masksO h d + 1 + i)) hi q) 5 (le-refl 5))
 
-    -- and its parameters from slot h + 2 d + 41 on
+    -- and its parameters from slot parametersO on
     pub o-parameters : (i : ℕ) → i < allParameterBytes (asO bo)
         → oo (parametersO h d + i) ≡ Says (parameterSent (asO bo) (paramsOf (entryOf (asO bo) 0)) i)
     o-parameters i l =
@@ -115,7 +115,7 @@ module _ {d a h n : ℕ} {bo ba : Book}
         (parametersO h d) (omega arith) (λ z. o-masked)
         (λ j u hj q. parameter-sends bo (common bo ba) j u (ho (parametersO h d + j)) (q hj)) i l
 
-    -- O's mask arrives at A in the slots h + 3 d + 35 to h + 3 d + 40
+    -- O's identifier arrives at A in slot masksO + d and the five after it
     a-group : GroupHeard (idO bo) ha (masksO h d + d)
     a-group = subst (GroupHeard (idO bo) ha) (omega arith) (m .toA .group (masksO h d) (idO bo) (omega arith) (omega (arith, m .room)) small-o o-mask)
 
@@ -147,14 +147,14 @@ module _ {d a h n : ℕ} {bo ba : Book}
     unfolding slots a-held
     a-last = rw (a-group .votes, same-version, shared)
 
-    -- A settles the version in slot h + 3 d + 40
+    -- A settles the version in slot lacksA
     pub a-settles : sa (parametersO h d + d) ≡ Talks (talk (Run 1 0) (identified (idO bo)) (common bo ba) Idle)
     a-settles =
         subst (λ t. sa t ≡ Talks (talk (Run 1 0) (identified (idO bo)) (common bo ba) Idle)) (omega arith)
         (one (m .runsA) (lacksA h d) (Talks (settled a-held 0 Idle)) (Dh (a-group .h2)) (omega (arith, m .apart)) a-nearly
         (subst (λ t. ha t ≡ Dh (a-group .h2)) (omega arith) (a-group .at5)) ∙ ap (λ q. q .to) a-last)
 
-    -- and has sent Sdidle since its mask
+    -- and has sent Sdidle since its identifier
     pub a-idle : During (masksA h d + 6) (parametersO h d + d) (λ t. oa t ≡ Says (Alone sdidle))
     a-idle =
         join (masksO h d + d) (a-idles m)
@@ -180,7 +180,7 @@ module _ {d a h n : ℕ} {bo ba : Book}
         subst (λ t. SendsO (common bo ba) (Mask 5) (so t)) (omega arith)
         (keep (m .runsO) (λ i u. SendsO (common bo ba) (Mask (suc i)) u) (λ i. Says (Part (suc i) 0)) 4 (masksO h d + 1) (omega arith) lacks-from lacks-on 4 (le-refl 4))
 
-    -- O refuses 21 in slot h + 2 d + 40, with the sixth byte of 00
+    -- O refuses 21 in slot lacksO, with the sixth byte of 00
     pub o-refuses : Ended (Refuses 21) (so (suc (lacksO h d)))
     o-refuses =
         rw (one (m .runsO) (lacksO h d) (so (lacksO h d)) (ho (lacksO h d)) (omega arith) refl refl)
@@ -234,7 +234,7 @@ module _ {d a h n : ℕ} {bo ba : Book}
     unfolding slots zero-held
     zero-last = rw (zero-group .votes, highest-zero (idA ba))
 
-    -- and A in slot h + 3 d + 40
+    -- and A in slot lacksA
     pub a-refuses : Ended (Refuses 21) (sa (suc (lacksA h d)))
     a-refuses =
         ended (talk (Run 1 0) (identified 0) 0 Idle)

@@ -1,5 +1,5 @@
 -- A channel that makes one byte of whatever is sent in a slot: when what arrives of it is within the allowed damage. Assumes nothing.
-use mathlib.Core.Path.{_≡_, refl, ap, _∙_, subst}
+use mathlib.Core.Path.{_≡_, refl, sym, ap, _∙_, subst}
 use mathlib.Core.List.{List, [], _∷_, _++_}
 use Prim.Native.Nat.{ℕ, zero, suc, _+_, _*_, _/_, _%_, _≤_, _<_}
 use native.Mathlib.Nat.{zero-add}
@@ -71,13 +71,7 @@ group-moved v x y heard heard′ at g =
 
 pub group-at : (v x : ℕ) (heard group : ℕ → ℕ) → ((place : ℕ) → place < 6 → heard (x + place) ≡ group place) → GroupArrives v group 0
     → GroupArrives v heard x
-group-at v x heard group at g =
-    record {
-      marks = λ place l. rw (at place l) (rw zero-add at (g .marks place l));
-      copies =
-          λ i l.
-          rw (at 0 (lit< tt), at 1 (lit< tt), at 2 (lit< tt), at 3 (lit< tt), at 4 (lit< tt), at 5 (lit< tt)) (g .copies i l);
-    }
+group-at v x heard group at = group-moved v 0 x group heard (λ place l. at place l ∙ ap group (sym (zero-add place)))
 
 pub arrives : (made : Sent → ℕ) → Within made → (d : ℕ) (sent : ℕ → Sent) (heard : ℕ → ℕ)
     → ((t : ℕ) → t < d → heard t / 2 ≡ sgidle / 2) → ((t : ℕ) → heard (t + d) ≡ made (sent t)) → Arrives d sent heard
