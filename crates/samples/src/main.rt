@@ -1,9 +1,16 @@
-// samples: runs the samples that are to be run and both worked examples of tjoin, and prints what came beside what document 01 says.
+// samples: runs the samples of document 01 that are to be run, and tells what came beside what it says.
 use book::number;
 use book::read_book;
 use channel::byte::ChannelByte;
+use console::Input;
+use console::is_asked;
+use console::not_read;
+use console::not_written;
+use console::put;
+use console::read_all;
 use endpoint::slot::slot;
 use endpoint::start::start;
+use libc::STDERR_FILENO;
 use libc::STDOUT_FILENO;
 use opened::drive::idle;
 use pair::report::report;
@@ -16,19 +23,42 @@ use text::word;
 
 mod books;
 
-fn put_text(t: Text) {
-    let bytes = t.bytes;
-    let n = io::count(t.length as isize, &bytes);
-    io::write_all(STDOUT_FILENO, &bytes[..n]);
+// No open file has this number.
+const CLOSED: i32 = -1;
+
+fn explained() -> bool {
+    is_asked(
+        b"samples runs the samples of document 01 that are to be run, and reads nothing.\n\
+It prints for each sample what is run, what came and what 01 says of it:\n  \
+limit 424\n  \
+came:\n  \
+refused 6\n  \
+01 says:\n  \
+refused 6\n\
+Two more, of an input and of an output that is closed, show what every program tells\n\
+of these, beside what is wanted. The gate holds all of it to crates/samples/stdout,\n\
+where what came and what is said agree in every sample.\n",
+    )
 }
 
-fn show(sample: &[u8], came: Text, says: &[u8]) {
-    io::write_all(STDOUT_FILENO, sample);
-    io::write_all(STDOUT_FILENO, b"\ncame:\n");
-    put_text(came);
-    io::write_all(STDOUT_FILENO, b"01 says:\n");
-    io::write_all(STDOUT_FILENO, says);
-    io::write_all(STDOUT_FILENO, b"\n");
+fn put_text(t: Text) -> bool {
+    let bytes = t.bytes;
+    let n = io::count(t.length as isize, &bytes);
+    io::write_all(STDOUT_FILENO, &bytes[..n])
+}
+
+fn begun(sample: &[u8]) -> bool {
+    io::write_all(STDOUT_FILENO, sample) && io::write_all(STDOUT_FILENO, b"\ncame:\n")
+}
+
+fn ended(by: &[u8], says: &[u8]) -> bool {
+    io::write_all(STDOUT_FILENO, by)
+        && io::write_all(STDOUT_FILENO, says)
+        && io::write_all(STDOUT_FILENO, b"\n")
+}
+
+fn show(sample: &[u8], came: Text, says: &[u8]) -> bool {
+    begun(sample) && put_text(came) && ended(b"01 says:\n", says)
 }
 
 fn sent(r: Reply) -> u8 {
@@ -73,59 +103,88 @@ fn joined(mask_o: u8, mask_a: u8, limit: u16, delay: u8) -> Text {
     report(&books::pair(mask_o, mask_a, limit, delay))
 }
 
-fn runs() {
+fn runs() -> bool {
     show(
         b"15 Sgvi, one 43, one Sgvi, to an answerer of mask 3",
         sent_after(&books::NO_RUN),
         b"no run: Sgvi, 57, goes on\n",
-    );
-    show(
-        b"16 Sgvi in a row, to the same",
-        sent_after(&books::RUN),
-        b"a run: the mask goes, first its DL, 35\n",
-    );
+    )
+        && show(
+            b"16 Sgvi in a row, to the same",
+            sent_after(&books::RUN),
+            b"a run: the mask goes, first its DL, 35\n",
+        )
 }
 
-fn limits() {
-    show(b"limit 424", verdict(&books::one(424)), b"refused 6\n");
-    show(b"limit 425", verdict(&books::one(425)), b"accepted\n");
+fn limits() -> bool {
+    show(b"limit 424", verdict(&books::one(424)), b"refused 6\n")
+        && show(b"limit 425", verdict(&books::one(425)), b"accepted\n")
 }
 
-fn entries() {
-    show(b"nine entries", verdict(&books::NINE), b"refused 7\n");
-    show(b"eight entries", verdict(&books::EIGHT), b"accepted\n");
+fn entries() -> bool {
+    show(b"nine entries", verdict(&books::NINE), b"refused 7\n")
+        && show(b"eight entries", verdict(&books::EIGHT), b"accepted\n")
 }
 
-fn delays() {
+fn delays() -> bool {
     show(
         b"delay 2, limits 430",
         joined(3, 3, 430, 2),
         b"both open, O in slot 429, A in 427\n",
-    );
-    show(
-        b"delay 2, limits 429",
-        joined(3, 3, 429, 2),
-        b"A opens in 427, O refuses 23 in slot 428\n",
-    );
+    )
+        && show(
+            b"delay 2, limits 429",
+            joined(3, 3, 429, 2),
+            b"A opens in 427, O refuses 23 in slot 428\n",
+        )
 }
 
-fn examples() {
+fn examples() -> bool {
     show(
         b"tjoin, both masks 3, limit 500, delay 1",
         joined(3, 3, 500, 1),
         b"O open 2 0102030405 424\nA open 2 0102030405 423\n",
-    );
-    show(
-        b"tjoin, masks 1 and 2",
-        joined(1, 2, 500, 1),
-        b"O refused 21 43\nA refused 21 44\n",
-    );
+    )
+        && show(
+            b"tjoin, masks 1 and 2",
+            joined(1, 2, 500, 1),
+            b"O refused 21 43\nA refused 21 44\n",
+        )
+}
+
+fn closed_input() -> bool {
+    if !begun(b"a program whose input is closed") {
+        return false;
+    }
+    let mut buffer = [0u8; 1];
+    let read = read_all(CLOSED, &mut buffer);
+    match read {
+        Input::Failed => not_read(STDOUT_FILENO, b"samples"),
+        Input::Read(_) => {}
+    }
+    ended(b"wanted:\n", b"samples: the input could not be read\n")
+}
+
+fn closed_output() -> bool {
+    if !begun(b"a program whose output is closed") {
+        return false;
+    }
+    put(CLOSED, STDOUT_FILENO, b"samples", b"what is not written\n");
+    ended(b"wanted:\n", b"samples: the output could not be written\n")
 }
 
 fn main() {
-    runs();
-    limits();
-    delays();
-    entries();
-    examples();
+    if explained() {
+        return;
+    }
+    let whole = runs()
+        && limits()
+        && delays()
+        && entries()
+        && examples()
+        && closed_input()
+        && closed_output();
+    if !whole {
+        not_written(STDERR_FILENO, b"samples");
+    }
 }

@@ -1,59 +1,69 @@
--- `tslot::main` meets its contract. Assumes nothing.
+-- `tslot::main` meets its contract: what was read is within the buffer. Assumes nothing.
+use mathlib.Core.Path.{sym}
+use lib.Seq.{length-take-le}
+use Rattle.console.proofs.Reading.{within-read}
 use borrow.Author.Needs.{needs}
-use Rattle.script.proofs.Room.{written}
 use Rattle.tslot.proofs.main.Statement.{statement}
 use Rattle.tslot.proofs.main.Tie as tie
+
+explained-requires : tie.Need-explained-requires
+explained-requires c κs = search needs
+
+returns : tie.Need-returns
+returns c = search needs
 
 large-buffer-requires : tie.Need-large-buffer-requires
 large-buffer-requires c κs = search needs
 
-slice-aggregate-read-full : tie.Need-slice-aggregate-read-full
-slice-aggregate-read-full c = search needs
+slice-aggregate-read-all : tie.Need-slice-aggregate-read-all
+slice-aggregate-read-all c = search needs
 
-read-full-requires : tie.Need-read-full-requires
-read-full-requires c κs = search needs
+read-all-requires : tie.Need-read-all-requires
+read-all-requires c κs = search needs
 
-output-buffer-requires : tie.Need-output-buffer-requires
-output-buffer-requires c κs = search needs
+enum-told : tie.Need-enum-told
+enum-told c = search needs
+
+slice-aggregate-not-read : tie.Need-slice-aggregate-not-read
+slice-aggregate-not-read c = search needs
+
+not-read-requires : tie.Need-not-read-requires
+not-read-requires c κs = search needs
+
+enum-known-read : tie.Need-enum-known-read
+enum-known-read c = search needs
 
 array-share-prefix-input : tie.Need-array-share-prefix-input
-array-share-prefix-input c = search needs
+array-share-prefix-input c = within-read (c .before .before .before .before .read-all .ensures) (c .before .read .given .1)
 
-slice-aggregate-run : tie.Need-slice-aggregate-run
-slice-aggregate-run c = search needs
+slice-aggregate-answered : tie.Need-slice-aggregate-answered
+slice-aggregate-answered c =
+    sym (length-take-le _ _ (within-read (c .before .before .before .before .before .read-all .ensures) (c .before .before .read .given .1)))
 
-slice-aggregate-run-2 : tie.Need-slice-aggregate-run-2
-slice-aggregate-run-2 c = search needs
+answered-requires : tie.Need-answered-requires
+answered-requires c κs = search needs
 
-run-requires : tie.Need-run-requires
-run-requires c κs = search needs
+returns-2 : tie.Need-returns-2
+returns-2 c = search needs
 
-array-share-prefix-output : tie.Need-array-share-prefix-output
-array-share-prefix-output c = search needs
-
-slice-aggregate-write-all : tie.Need-slice-aggregate-write-all
-slice-aggregate-write-all c =
-    written _ (c .before .before .before .before .before .output-buffer .result) (c .before .before .run .ensures .0) (c .before .before .run .ensures .1)
-
-write-all-requires : tie.Need-write-all-requires
-write-all-requires c κs = search needs
-
-returns : tie.Need-returns
-returns c = search needs
+returns-3 : tie.Need-returns-3
+returns-3 c = search needs
 
 pub main-spec : {M : Type 1} → statement M
 main-spec =
     tie.close
     (tie.spec
+    explained-requires
+    returns
     large-buffer-requires
-    slice-aggregate-read-full
-    read-full-requires
-    output-buffer-requires
+    slice-aggregate-read-all
+    read-all-requires
+    enum-told
+    slice-aggregate-not-read
+    not-read-requires
+    enum-known-read
     array-share-prefix-input
-    slice-aggregate-run
-    slice-aggregate-run-2
-    run-requires
-    array-share-prefix-output
-    slice-aggregate-write-all
-    write-all-requires
-    returns)
+    slice-aggregate-answered
+    answered-requires
+    returns-2
+    returns-3)

@@ -1,0 +1,11 @@
+-- Readings at figures, on both sides of each line. Assumes nothing.
+use mathlib.Core.Path.{_≡_, refl}
+use mathlib.Core.List.{List, [], _∷_}
+use lib.IntN.{pos, negsuc}
+use Rattle.console.specs.declared.Input.{Input}
+use Rattle.console.specs.Reading.{cameOf}
+
+-- into four places: -1 is a failure, 0 the end of the input, and no more come than there are places
+pub readings-as-answered : cameOf (negsuc 0) 4 ∷ cameOf (pos 0) 4 ∷ cameOf (pos 1) 4 ∷ cameOf (pos 4) 4 ∷ cameOf (pos 5) 4 ∷ [] ≡ Input.Failed ∷ Input.Read 0 ∷ Input.Read 1 ∷ Input.Read 4 ∷ Input.Read 4 ∷ []
+unfolding cameOf
+readings-as-answered = refl
