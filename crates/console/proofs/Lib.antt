@@ -1,2 +1,4 @@
 pub mod Reading
+pub mod Telling
 mod Figures
+mod OneReply

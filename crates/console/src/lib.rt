@@ -1,8 +1,12 @@
-// What every program does with its arguments, its input and its output: it reads all, writes all, and tells what could not be.
+// What every program does with its input and its output: it reads all of the one, and tells where one of them failed.
 ghost use lib.ListN.{length};
 ghost use mathlib.Core.Path.{_≡_};
+ghost use Rattle.text.specs.Text.{text};
 ghost use Rattle.console.specs.Reading.{Within, cameOf};
-use libc::STDERR_FILENO;
+ghost use Rattle.console.specs.Telling.{toldOf};
+use text::Text;
+use text::empty;
+use text::word;
 
 // How many bytes stand at the start of the buffer, or that a read failed.
 pub enum Input {
@@ -46,35 +50,29 @@ fn came(got: isize, buf: &[u8]) -> Input
     Input::Read(io::count(got, buf))
 }
 
-// Writes all of the text, or tells that it could not be.
-pub fn put(fd: i32, told: i32, name: &[u8], text: &[u8]) {
-    if !io::write_all(fd, text) {
-        not_written(told, name);
+// What a program could not do.
+pub enum Failure {
+    NotRead,
+    NotWritten,
+}
+
+// Writes the line that tells of the failure, and answers that line.
+pub fn tell(fd: i32, name: &[u8], failure: Failure) -> Text
+    ensures { λ r. ⌜ r ≡ text (toldOf (now (name .entry)) failure) ⌝ }
+{
+    let line = told(name, failure);
+    let bytes = line.bytes;
+    let n = io::count(line.length as isize, &bytes);
+    io::write_all(fd, &bytes[..n]);
+    line
+}
+
+fn told(name: &[u8], failure: Failure) -> Text
+    ensures { λ r. ⌜ r ≡ text (toldOf (now (name .entry)) failure) ⌝ }
+{
+    let begun = word(empty(), name);
+    match failure {
+        Failure::NotRead => word(begun, b": the input could not be read\n"),
+        Failure::NotWritten => word(begun, b": the output could not be written\n"),
     }
-}
-
-// Tells that the program's output could not be written.
-pub fn not_written(told: i32, name: &[u8]) {
-    tell(told, name, b"the output could not be written");
-}
-
-// Tells that the program's input could not be read.
-pub fn not_read(told: i32, name: &[u8]) {
-    tell(told, name, b"the input could not be read");
-}
-
-// With any argument a program says what it reads and prints, and reads nothing.
-pub fn is_asked(usage: &[u8]) -> bool {
-    let asked = os::arg_count() > 1;
-    if asked {
-        io::write_all(STDERR_FILENO, usage);
-    }
-    asked
-}
-
-fn tell(fd: i32, name: &[u8], text: &[u8]) {
-    io::write_all(fd, name);
-    io::write_all(fd, b": ");
-    io::write_all(fd, text);
-    io::write_all(fd, b"\n");
 }

@@ -2,12 +2,10 @@
 use book::number;
 use book::read_book;
 use channel::byte::ChannelByte;
+use console::Failure;
 use console::Input;
-use console::is_asked;
-use console::not_read;
-use console::not_written;
-use console::put;
 use console::read_all;
+use console::tell;
 use endpoint::slot::slot;
 use endpoint::start::start;
 use libc::STDERR_FILENO;
@@ -26,8 +24,10 @@ mod books;
 // No open file has this number.
 const CLOSED: i32 = -1;
 
-fn explained() -> bool {
-    is_asked(
+// Told to who calls it with an argument.
+fn explain() {
+    io::write_all(
+        STDERR_FILENO,
         b"samples runs the samples of document 01 that are to be run, and reads nothing.\n\
 It prints for each sample what is run, what came and what 01 says of it:\n  \
 limit 424\n  \
@@ -38,7 +38,7 @@ refused 6\n\
 Two more, of an input and of an output that is closed, show what every program tells\n\
 of these, beside what is wanted. The gate holds all of it to crates/samples/stdout,\n\
 where what came and what is said agree in every sample.\n",
-    )
+    );
 }
 
 fn put_text(t: Text) -> bool {
@@ -159,8 +159,10 @@ fn closed_input() -> bool {
     let mut buffer = [0u8; 1];
     let read = read_all(CLOSED, &mut buffer);
     match read {
-        Input::Failed => not_read(STDOUT_FILENO, b"samples"),
         Input::Read(_) => {}
+        Input::Failed => {
+            tell(STDOUT_FILENO, b"samples", Failure::NotRead);
+        }
     }
     ended(b"wanted:\n", b"samples: the input could not be read\n")
 }
@@ -169,13 +171,15 @@ fn closed_output() -> bool {
     if !begun(b"a program whose output is closed") {
         return false;
     }
-    put(CLOSED, STDOUT_FILENO, b"samples", b"what is not written\n");
+    if !io::write_all(CLOSED, b"what is not written\n") {
+        tell(STDOUT_FILENO, b"samples", Failure::NotWritten);
+    }
     ended(b"wanted:\n", b"samples: the output could not be written\n")
 }
 
 fn main() {
-    if explained() {
-        return;
+    if os::arg_count() > 1 {
+        return explain();
     }
     let whole = runs()
         && limits()
@@ -185,6 +189,6 @@ fn main() {
         && closed_input()
         && closed_output();
     if !whole {
-        not_written(STDERR_FILENO, b"samples");
+        tell(STDERR_FILENO, b"samples", Failure::NotWritten);
     }
 }

@@ -1,9 +1,8 @@
 // tjoin: joins an originator's book and an answerer's over a delay, and tells how both ends conclude.
+use console::Failure;
 use console::Input;
-use console::is_asked;
-use console::not_read;
-use console::put;
 use console::read_all;
+use console::tell;
 use libc::STDERR_FILENO;
 use libc::STDIN_FILENO;
 use libc::STDOUT_FILENO;
@@ -12,8 +11,10 @@ use pair::report::report;
 // One place more than the longest input, which tells a longer one from it.
 const PLACES: usize = 85;
 
-fn explained() -> bool {
-    is_asked(
+// Told to who calls it with an argument.
+fn explain() {
+    io::write_all(
+        STDERR_FILENO,
         b"tjoin joins two ends by a channel without damage and tells how both conclude.\n\
 It reads 18 to 84 bytes: the originator's book (17 bytes), the answerer's book\n\
 (17 to 66) and the delay in slots (1 byte, not 0). It prints two lines, O and A:\n  \
@@ -24,24 +25,28 @@ O refused by number NUMBER       the book of O, or of A, is at fault\n  \
 pair refused                     these are not an originator's book and an answerer's\n  \
 input refused                    it is too short or too long, or the delay is 0\n\
 docs/NUMBERS.md says what each number means; examples/pair.hex has such an input.\n",
-    )
+    );
 }
 
-fn answered(input: &[u8]) {
+fn answer(input: &[u8]) {
     let said = report(input);
     let length = said.length as usize;
     let bytes = said.bytes;
-    put(STDOUT_FILENO, STDERR_FILENO, b"tjoin", &bytes[..length]);
+    if !io::write_all(STDOUT_FILENO, &bytes[..length]) {
+        tell(STDERR_FILENO, b"tjoin", Failure::NotWritten);
+    }
 }
 
 fn main() {
-    if explained() {
-        return;
+    if os::arg_count() > 1 {
+        return explain();
     }
     let mut input = [0u8; PLACES];
     let read = read_all(STDIN_FILENO, &mut input);
     match read {
-        Input::Failed => not_read(STDERR_FILENO, b"tjoin"),
-        Input::Read(n) => answered(&input[..n]),
+        Input::Read(n) => answer(&input[..n]),
+        Input::Failed => {
+            tell(STDERR_FILENO, b"tjoin", Failure::NotRead);
+        }
     }
 }

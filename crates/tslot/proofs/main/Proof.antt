@@ -6,8 +6,11 @@ use borrow.Author.Needs.{needs}
 use Rattle.tslot.proofs.main.Statement.{statement}
 use Rattle.tslot.proofs.main.Tie as tie
 
-explained-requires : tie.Need-explained-requires
-explained-requires c κs = search needs
+arg-count-requires : tie.Need-arg-count-requires
+arg-count-requires c κs = search needs
+
+explain-requires : tie.Need-explain-requires
+explain-requires c κs = search needs
 
 returns : tie.Need-returns
 returns c = search needs
@@ -21,27 +24,27 @@ slice-aggregate-read-all c = search needs
 read-all-requires : tie.Need-read-all-requires
 read-all-requires c κs = search needs
 
-enum-told : tie.Need-enum-told
-enum-told c = search needs
-
-slice-aggregate-not-read : tie.Need-slice-aggregate-not-read
-slice-aggregate-not-read c = search needs
-
-not-read-requires : tie.Need-not-read-requires
-not-read-requires c κs = search needs
-
 enum-known-read : tie.Need-enum-known-read
 enum-known-read c = search needs
 
 array-share-prefix-input : tie.Need-array-share-prefix-input
 array-share-prefix-input c = within-read (c .before .before .before .before .read-all .ensures) (c .before .read .given .1)
 
-slice-aggregate-answered : tie.Need-slice-aggregate-answered
-slice-aggregate-answered c =
+slice-aggregate-answer : tie.Need-slice-aggregate-answer
+slice-aggregate-answer c =
     sym (length-take-le _ _ (within-read (c .before .before .before .before .before .read-all .ensures) (c .before .before .read .given .1)))
 
-answered-requires : tie.Need-answered-requires
-answered-requires c κs = search needs
+answer-requires : tie.Need-answer-requires
+answer-requires c κs = search needs
+
+enum-told : tie.Need-enum-told
+enum-told c = search needs
+
+slice-aggregate-tell : tie.Need-slice-aggregate-tell
+slice-aggregate-tell c = search needs
+
+tell-requires : tie.Need-tell-requires
+tell-requires c κs = search needs
 
 returns-2 : tie.Need-returns-2
 returns-2 c = search needs
@@ -53,17 +56,18 @@ pub main-spec : {M : Type 1} → statement M
 main-spec =
     tie.close
     (tie.spec
-    explained-requires
+    arg-count-requires
+    explain-requires
     returns
     large-buffer-requires
     slice-aggregate-read-all
     read-all-requires
-    enum-told
-    slice-aggregate-not-read
-    not-read-requires
     enum-known-read
     array-share-prefix-input
-    slice-aggregate-answered
-    answered-requires
+    slice-aggregate-answer
+    answer-requires
+    enum-told
+    slice-aggregate-tell
+    tell-requires
     returns-2
     returns-3)
