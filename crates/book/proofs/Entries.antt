@@ -1,4 +1,4 @@
--- Each way through the checks of the entries, 8, 9 and 10, and through their loops. Assumes nothing.
+-- Each way through the checks of the entries, 8, 17, 9 and 10, and through their loops. Assumes nothing.
 use Prim.Native.Nat.{ℕ, _+_, _<_, _≤_}
 use mathlib.Core.Path.{_≡_, sym, _∙_}
 use mathlib.Core.Bool.{Bool, true, false, not, _&&_, _||_, or-false, or-assoc}
@@ -9,8 +9,9 @@ use lib.ListN.{length, getD, take, drop, drop-of-length-le}
 use lib.Seq.{length-take-le, drop-cons, getD-take, take-suc}
 use borrow.Author.Tests.{ne-eqb, not-true, not-false}
 use Rattle.book.specs.declared.Entry.{Entry}
-use Rattle.book.specs.Book.{mostEntries, noEntry, sameParams}
-use Rattle.book.specs.Refusals.{isForm, isWidth, isBarred, seenIn, entryNo, eachNo}
+use Rattle.book.specs.declared.Fault.{Fault}
+use Rattle.book.specs.Book.{mostEntries, formIn, widthIn, entryStart, noEntry, sameParams}
+use Rattle.book.specs.Refusals.{fault, nothingWrong, isForm, isWidth, isBarred, seenIn, entryFault, eachFault}
 use Rattle.book.specs.Kept.{isNone, allNone, isPadded}
 
 -- what is left of the first i entries from j on begins with entry j
@@ -41,45 +42,55 @@ seen-next es e i j f b lt le len ef eb =
 pub seen-end : (es : List Entry) (e : Entry) (i j : ℕ) (f : Bool) → i ≤ j → j ≤ i → f ≡ seenIn (take j es) e → f ≡ seenIn (take i es) e
 seen-end es e i j f ge le h = let k : j ≡ i = omega arith in h ∙ rw k
 
--- 8, 9 and 10 of one entry
-module _ (mask : ℕ) (earlier : List Entry) (e : Entry) (f w : Bool) (ef : f ≡ isForm (e .form)) (ew : w ≡ isWidth (e .form) (e .w)) where
-  pub entry-form : not (f && w) ≡ true → 8 ≡ entryNo mask earlier e
-  unfolding entryNo
-  entry-form h = rw (← ef, ← ew, h)
+-- 8, 17, 9 and 10 of one entry
+module _ (mask : ℕ) (earlier : List Entry) (start : ℕ) (e : Entry) (f : Bool) (ef : f ≡ isForm (e .form)) where
+  pub entry-form : (r : Fault) → r ≡ fault 8 (start + formIn) → not f ≡ true → r ≡ entryFault mask earlier start e
+  unfolding entryFault
+  entry-form r q h = q ∙ rw (← ef, h)
 
-  module _ (h : not (f && w) ≡ false) (g : Bool) (eg : g ≡ isBarred mask (e .form)) where
-    pub entry-barred : g ≡ true → 9 ≡ entryNo mask earlier e
-    unfolding entryNo
-    entry-barred k = rw (← ef, ← ew, h, ← eg, k)
+  module _ (h : not f ≡ false) (w : Bool) (ew : w ≡ isWidth (e .form) (e .w)) where
+    pub entry-width : (r : Fault) → r ≡ fault 17 (start + widthIn) → not w ≡ true → r ≡ entryFault mask earlier start e
+    unfolding entryFault
+    entry-width r q l = q ∙ rw (← ef, h, ← ew, l)
 
-    module _ (k : g ≡ false) (b : Bool) (eb : b ≡ seenIn earlier e) where
-      pub entry-seen : b ≡ true → 10 ≡ entryNo mask earlier e
-      unfolding entryNo
-      entry-seen t = rw (← ef, ← ew, h, ← eg, k, ← eb, t)
+    module _ (l : not w ≡ false) (g : Bool) (eg : g ≡ isBarred mask (e .form)) where
+      pub entry-barred : (r : Fault) → r ≡ fault 9 (start + formIn) → g ≡ true → r ≡ entryFault mask earlier start e
+      unfolding entryFault
+      entry-barred r q k = q ∙ rw (← ef, h, ← ew, l, ← eg, k)
 
-      pub entry-fine : b ≡ false → 0 ≡ entryNo mask earlier e
-      unfolding entryNo
-      entry-fine t = rw (← ef, ← ew, h, ← eg, k, ← eb, t)
+      module _ (k : g ≡ false) (b : Bool) (eb : b ≡ seenIn earlier e) where
+        pub entry-seen : (r : Fault) → r ≡ fault 10 start → b ≡ true → r ≡ entryFault mask earlier start e
+        unfolding entryFault
+        entry-seen r q t = q ∙ rw (← ef, h, ← ew, l, ← eg, k, ← eb, t)
 
-pub ruleset entry-ways = (entry-form, entry-barred, entry-seen, entry-fine)
+        pub entry-fine : b ≡ false → nothingWrong ≡ entryFault mask earlier start e
+        unfolding entryFault
+        entry-fine t = rw (← ef, h, ← ew, l, ← eg, k, ← eb, t)
+
+pub ruleset entry-ways = (entry-form, entry-width, entry-barred, entry-seen, entry-fine)
 
 -- the run over the first n entries, at i
-module _ (es : List Entry) (mask n i : ℕ) (le : n ≤ mostEntries) (len : length es ≡ mostEntries)
-    (inv : eachNo mask [] (take n es) ≡ eachNo mask (take i es) (drop i (take n es))) where
-  module _ (lt : i < n) (r : ℕ) (er : r ≡ entryNo mask (take i es) (getD es i noEntry)) where
-    pub run-refused : (r ≡ 0 → ⊥) → r ≡ eachNo mask [] (take n es)
-    unfolding eachNo
-    run-refused t = rw (inv, at-drop es n i lt le len, ← er, ne-eqb _ _ t)
+module _ (version : ℕ) (es : List Entry) (mask n i : ℕ) (le : n ≤ mostEntries) (len : length es ≡ mostEntries)
+    (inv : eachFault version mask [] (take n es) ≡ eachFault version mask (take i es) (drop i (take n es))) where
+  module _ (lt : i < n) (start : ℕ) (at : start ≡ entryStart version i) (r : Fault)
+      (er : r ≡ entryFault mask (take i es) start (getD es i noEntry)) where
+    found : r ≡ entryFault mask (take i es) (entryStart version (length (take i es))) (getD es i noEntry)
+    found = er ∙ rw (at, length-take-le i es (omega arith))
 
-    pub run-next : r ≡ 0 → eachNo mask [] (take n es) ≡ eachNo mask (take (i + 1) es) (drop (i + 1) (take n es))
-    unfolding eachNo
+    pub run-refused : (r .number ≡ 0 → ⊥) → r ≡ eachFault version mask [] (take n es)
+    unfolding eachFault
+    run-refused t = rw (inv, at-drop es n i lt le len, ← found, ne-eqb _ _ t)
+
+    pub run-next : r .number ≡ 0
+        → eachFault version mask [] (take n es) ≡ eachFault version mask (take (i + 1) es) (drop (i + 1) (take n es))
+    unfolding eachFault
     run-next t =
         let l : i < length es = omega arith in
         let k : take (i + 1) es ≡ take i es ++ (getD es i noEntry ∷ []) = rw (add-one, take-suc es i noEntry) in
-        inv ∙ rw (at-drop es n i lt le len, ← er, t, ← k)
+        inv ∙ rw (at-drop es n i lt le len, ← found, t, ← k)
 
-  pub run-end : n ≤ i → 0 ≡ eachNo mask [] (take n es)
-  unfolding eachNo
+  pub run-end : n ≤ i → nothingWrong ≡ eachFault version mask [] (take n es)
+  unfolding eachFault
   run-end ge = rw (inv, at-end es n i ge le len)
 
 pub ruleset runs = (run-refused, run-next, run-end)

@@ -13,10 +13,10 @@ use borrow.Author.Tests.{eqb-true, ne-eqb, leb-true, not-false, eqb-false}
 use Rattle.ground.proofs.Test.{both-left, both-right}
 use Rattle.book.specs.declared.Entry.{Entry}
 use Rattle.book.specs.declared.Book.{Book}
-use Rattle.book.specs.Book.{mostEntries, noEntry, paramsOf, sameParams}
-use Rattle.book.specs.Refusals.{leastLimit, isMask, wrongCount, isForm, isWidth, isBarred, seenIn, entryNo, eachNo, valuesNo, entriesNo}
+use Rattle.book.specs.Book.{mostEntries, entryStart, noEntry, versionOf, paramsOf, sameParams}
+use Rattle.book.specs.Refusals.{leastLimit, isMask, wrongCount, isForm, isWidth, isBarred, seenIn, entryFault, eachFault, valuesFault, entriesFault}
 use Rattle.book.specs.Kept.{allNone, isPadded, bookOk}
-use Rattle.book.proofs.NothingWrong.{neither, cond-zero, else-zero, valued}
+use Rattle.book.proofs.NothingWrong.{neither, cond-fine, else-fine, valued}
 use Rattle.book.proofs.Params.{equal-same}
 
 -- one of its entries, with the book's mask
@@ -38,13 +38,15 @@ pub record KeptBook (b : Book) : Type 0 where
   pub entry : (i : ℕ) → i < b .n → KeptEntry (b .mask) (getD (b .entries) i noEntry)
   pub differ : (i j : ℕ) → i < j → j < b .n → paramsOf (getD (b .entries) i noEntry) ≡ paramsOf (getD (b .entries) j noEntry) → ⊥
 
-each-at : (mask : ℕ) (earlier es : List Entry) → eachNo mask earlier es ≡ 0 → (i : ℕ) → i < length es → entryNo mask (earlier ++ take i es) (getD es i noEntry) ≡ 0
-unfolding eachNo
-each-at mask earlier [] h i l = absurd (not-suc-le-zero l)
-each-at mask earlier (e ∷ es) h zero l =
-    rw append-nil (else-zero (entryNo mask earlier e) _ h .0)
-each-at mask earlier (e ∷ es) h (suc i) l =
-    let t = each-at mask (earlier ++ (e ∷ [])) es (else-zero (entryNo mask earlier e) _ h .1) i (le-of-suc-le-suc l) in
+each-at : (version mask : ℕ) (earlier es : List Entry) → eachFault version mask earlier es .number ≡ 0 → (i : ℕ) → i < length es
+    → entryFault mask (earlier ++ take i es) (entryStart version (length (earlier ++ take i es))) (getD es i noEntry) .number ≡ 0
+unfolding eachFault
+each-at version mask earlier [] h i l = absurd (not-suc-le-zero l)
+each-at version mask earlier (e ∷ es) h zero l =
+    rw append-nil (else-fine (entryFault mask earlier (entryStart version (length earlier)) e) _ h .0)
+each-at version mask earlier (e ∷ es) h (suc i) l =
+    let rest = else-fine (entryFault mask earlier (entryStart version (length earlier)) e) _ h .1 in
+    let t = each-at version mask (earlier ++ (e ∷ [])) es rest i (le-of-suc-le-suc l) in
     rw append-assoc at t
 
 not-seen : (earlier : List Entry) (e : Entry) → seenIn earlier e ≡ false → (i : ℕ) → i < length earlier → sameParams (getD earlier i noEntry) e ≡ false
@@ -75,44 +77,52 @@ mask-bounds m h =
     (λ p. omega (arith, eqb-true m 3 p))
     (or-true (eqb m 1 || eqb m 2) (eqb m 3) h)
 
-module _ (mask : ℕ) (earlier : List Entry) (e : Entry) (h : entryNo mask earlier e ≡ 0) where
-  entry-facts : ((isForm (e .form) && isWidth (e .form) (e .w)) ≡ true) × (isBarred mask (e .form) ≡ false) × (seenIn earlier e ≡ false)
-  unfolding entryNo
+module _ (mask : ℕ) (earlier : List Entry) (start : ℕ) (e : Entry) (h : entryFault mask earlier start e .number ≡ 0) where
+  pub record EntryFacts : Type 0 where
+    pub form : isForm (e .form) ≡ true
+    pub width : isWidth (e .form) (e .w) ≡ true
+    pub allowed : isBarred mask (e .form) ≡ false
+    pub new : seenIn earlier e ≡ false
+
+  entry-facts : EntryFacts
+  unfolding entryFault
   entry-facts =
-      let x = cond-zero (not (isForm (e .form) && isWidth (e .form) (e .w))) 7 _ h in
-      let y = cond-zero (isBarred mask (e .form)) 8 _ (x .1) in
-      let z = cond-zero (seenIn earlier e) 9 0 (y .1) in
-      (not-false _ (x .0), y .0, z .0)
+      let x = cond-fine (not (isForm (e .form))) 7 _ _ h in
+      let y = cond-fine (not (isWidth (e .form) (e .w))) 16 _ _ (x .1) in
+      let z = cond-fine (isBarred mask (e .form)) 8 _ _ (y .1) in
+      let v = cond-fine (seenIn earlier e) 9 _ _ (z .1) in
+      record { form = not-false _ (x .0); width = not-false _ (y .0); allowed = z .0; new = v .0 }
 
   kept-entry : KeptEntry mask e
   kept-entry =
-      let f = both-left (isForm (e .form)) (isWidth (e .form) (e .w)) (entry-facts .0) in
-      let w = both-right (isForm (e .form)) (isWidth (e .form) (e .w)) (entry-facts .0) in
+      let w = entry-facts .width in
       record {
-        form = form-cases (e .form) f;
+        form = form-cases (e .form) (entry-facts .form);
         word =
             λ (q : e .form ≡ 0).
             let v = rw q at w in
             (leb-true 5 (e .w) (both-left (leb 5 (e .w)) (leb (e .w) 8) v), leb-true (e .w) 8 (both-right (leb 5 (e .w)) (leb (e .w) 8) v));
         no-word = λ (q : e .form ≡ 0 → ⊥). eqb-true (e .w) 0 (rw (ne-eqb (e .form) 0 q) at w);
-        form-8 = λ (q : e .form ≡ 8). eqb-true mask 2 (not-false _ (rw q at (entry-facts .1)));
+        form-8 = λ (q : e .form ≡ 8). eqb-true mask 2 (not-false _ (rw q at (entry-facts .allowed)));
       }
 
 -- what the check tests
 pub record Passed (b : Book) : Type 0 where
-  pub values : valuesNo b ≡ 0
-  pub entries : entriesNo b ≡ 0
+  pub values : valuesFault b .number ≡ 0
+  pub entries : entriesFault (versionOf b) b .number ≡ 0
   pub room : length (b .entries) ≡ mostEntries
   pub rest : allNone (drop (b .n) (b .entries)) ≡ true
 
 pub passed : (b : Book) → bookOk b ≡ true → Passed b
 unfolding bookOk isPadded
 passed b h =
-    let x = both-left (eqb (valuesNo b) 0 && eqb (entriesNo b) 0) _ h in
-    let y = both-right (eqb (valuesNo b) 0 && eqb (entriesNo b) 0) _ h in
+    let values : Bool = eqb (valuesFault b .number) 0 in
+    let entries : Bool = eqb (entriesFault (versionOf b) b .number) 0 in
+    let x = both-left (values && entries) _ h in
+    let y = both-right (values && entries) _ h in
     record {
-      values = eqb-true _ _ (both-left (eqb (valuesNo b) 0) (eqb (entriesNo b) 0) x);
-      entries = eqb-true _ _ (both-right (eqb (valuesNo b) 0) (eqb (entriesNo b) 0) x);
+      values = eqb-true _ _ (both-left values entries x);
+      entries = eqb-true _ _ (both-right values entries x);
       room = eqb-true _ _ (both-left (eqb (length (b .entries)) mostEntries) _ y);
       rest = both-right (eqb (length (b .entries)) mostEntries) _ y;
     }
@@ -128,21 +138,22 @@ module _ (b : Book) (p : Passed b) where
   few = valued b (p .values) .few
 
   -- entry i is fine against the entries before it
-  fine-at : (i : ℕ) → i < b .n → entryNo (b .mask) (take i (b .entries)) (getD (b .entries) i noEntry) ≡ 0
-  unfolding entriesNo
+  fine-at : (i : ℕ) → i < b .n
+      → entryFault (b .mask) (take i (b .entries)) (entryStart (versionOf b) (length (take i (b .entries)))) (getD (b .entries) i noEntry) .number ≡ 0
+  unfolding entriesFault
   fine-at i l =
       let r = p .room in
       let m = few in
       let k : i < length (take (b .n) (b .entries)) = omega (arith, length-take-le (b .n) (b .entries) (omega arith)) in
       let j : i ≤ b .n = omega arith in
-      rw (getD-take, take-take) at (each-at (b .mask) [] (take (b .n) (b .entries)) (p .entries) i k)
+      rw (getD-take, take-take) at (each-at (versionOf b) (b .mask) [] (take (b .n) (b .entries)) (p .entries) i k)
 
   entries-differ : (i j : ℕ) → i < j → j < b .n → paramsOf (getD (b .entries) i noEntry) ≡ paramsOf (getD (b .entries) j noEntry) → ⊥
   entries-differ i j l m e =
       let r = p .room in
       let f = few in
       let k : i < length (take j (b .entries)) = omega (arith, length-take-le j (b .entries) (omega arith)) in
-      let t = not-seen (take j (b .entries)) (getD (b .entries) j noEntry) (entry-facts (b .mask) (take j (b .entries)) (getD (b .entries) j noEntry) (fine-at j m) .2) i k in
+      let t = not-seen (take j (b .entries)) (getD (b .entries) j noEntry) (entry-facts (b .mask) (take j (b .entries)) _ (getD (b .entries) j noEntry) (fine-at j m) .new) i k in
       let u : sameParams (getD (b .entries) i noEntry) (getD (b .entries) j noEntry) ≡ false = rw getD-take at t in
       true≢false (sym (equal-same (getD (b .entries) i noEntry) (getD (b .entries) j noEntry) e) ∙ u)
 
@@ -161,6 +172,6 @@ kept b h =
       few = v .few;
       originating = c .1;
       room = p .room;
-      entry = λ i l. kept-entry (b .mask) (take i (b .entries)) (getD (b .entries) i noEntry) (fine-at b p i l);
+      entry = λ i l. kept-entry (b .mask) (take i (b .entries)) _ (getD (b .entries) i noEntry) (fine-at b p i l);
       differ = entries-differ b p;
     }

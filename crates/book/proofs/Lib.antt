@@ -11,4 +11,7 @@ pub mod Kept
 mod Written
 pub mod RoundTrip
 pub mod OneReply
+pub mod Offending
+pub mod Longest
+pub mod Base
 pub mod Samples

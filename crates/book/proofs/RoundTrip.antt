@@ -14,9 +14,11 @@ use Rattle.ground.specs.Digits.{allBelow}
 use Rattle.ground.proofs.Test.{both-left, both-right}
 use Rattle.book.specs.declared.Entry.{Entry}
 use Rattle.book.specs.declared.Book.{Book}
+use Rattle.book.specs.declared.Fault.{Fault}
 use Rattle.book.specs.declared.BookRead.{BookRead}
-use Rattle.book.specs.Book.{mark, leastHeader, headerLength, entryLength, mostEntries, entryStart, versionIn, entryAt, entriesOf, noEntry, keptEntries, bookOf, versionOf, sameParams, entryBytes, entriesBytes, headerBytes, bookBytes}
-use Rattle.book.specs.Refusals.{valuesNo, entriesNo, bookNo}
+use Rattle.book.specs.Book.{mark, leastHeader, headerLength, entryLength, mostEntries, entryStart, versionIn, entryAt, entriesOf, noEntry, keptEntries, bookOf, versionOf, sameParams}
+use Rattle.book.specs.Written.{entryBytes, entriesBytes, headerBytes, bookBytes}
+use Rattle.book.specs.Refusals.{valuesFault, entriesFault, bookNo}
 use Rattle.book.specs.Reading.{numberOf, accepts, readBook, hasEntry, entryPart}
 use Rattle.book.specs.Kept.{isNone, allNone, isPadded, bookOk}
 use Rattle.book.proofs.Header.{start-fine, length-fine}
@@ -72,7 +74,7 @@ kept-rest : (version : ℕ) (s : List ℕ) (n : ℕ) → drop n (keptEntries ver
 unfolding keptEntries
 kept-rest version s n = drop-at (entriesOf version s n) (replicate (mostEntries - n) noEntry) n (entries-length version s n)
 
-kept-first : (version : ℕ) (s : List ℕ) (n : ℕ) → take n (keptEntries version s n) ≡ entriesOf version s n
+pub kept-first : (version : ℕ) (s : List ℕ) (n : ℕ) → take n (keptEntries version s n) ≡ entriesOf version s n
 unfolding keptEntries
 kept-first version s n = take-at (entriesOf version s n) (replicate (mostEntries - n) noEntry) n (entries-length version s n)
 
@@ -82,7 +84,8 @@ unfolding bookOk isPadded
 read-passes s b h =
     let f = fine s (read-fine s b h) in
     let l = valued (bookOf s) (f .values) .few in
-    rw (read-is s b h, f .values, f .entries, kept-room (versionIn s) s (bookOf s .n) l, kept-rest, none-all)
+    let same : versionOf (bookOf s) ≡ versionIn s = version-kept s (started s (f .start) .version) in
+    rw (read-is s b h, same, f .values, f .entries, kept-room (versionIn s) s (bookOf s .n) l, kept-rest, none-all)
 
 -- and that is the book beside the number 0
 pub number-passes : (s : List ℕ) → numberOf (readBook s .verdict) ≡ 0 → bookOk (readBook s .book) ≡ true
@@ -126,10 +129,10 @@ module _ (b : Book) (p : Passed b) where
       let v = versionIn (bookBytes b) in
       let long : leastHeader ≤ length (bookBytes b) = omega (arith, bytes-size, least-header v) in
       record {
-        start = sym (start-fine (bookBytes b) true (versionOf b) long refl refl (sym (version-written b)) (version-known b));
-        values = ap valuesNo book-back ∙ p .values;
-        size = sym (length-fine v (bookBytes b) (b .n) (b .n) (entryStart v (b .n)) refl refl (omega (arith, bytes-size)) (omega (arith, bytes-size)));
-        entries = ap entriesNo book-back ∙ p .entries;
+        start = ap (λ (f : Fault). f .number) (sym (start-fine (bookBytes b) true (versionOf b) long refl refl (sym (version-written b)) (version-known b)));
+        values = ap (λ (x : Book). valuesFault x .number) book-back ∙ p .values;
+        size = ap (λ (f : Fault). f .number) (sym (length-fine v (bookBytes b) (b .n) (b .n) (entryStart v (b .n)) refl refl (omega (arith, bytes-size)) (omega (arith, bytes-size))));
+        entries = ap (λ (x : Book). entriesFault v x .number) book-back ∙ rw version-written (p .entries);
       }
 
 -- every book that passes is what reading its own bytes yields

@@ -6,7 +6,8 @@ use native.Mathlib.Omega.{arith}
 use native.Mathlib.Nat.{div-add-mod}
 use lib.ListN.{length}
 use Rattle.book.specs.declared.Book.{Book}
-use Rattle.book.specs.Book.{bookVersion, leastHeader, headerLength, versionIn, versionOf, bookOf, headerBytes, bookBytes}
+use Rattle.book.specs.Book.{bookVersion, leastHeader, headerLength, versionIn, versionOf, bookOf}
+use Rattle.book.specs.Written.{headerBytes, bookBytes}
 
 pub least-header : (version : ℕ) → leastHeader ≤ headerLength version
 unfolding headerLength

@@ -9,7 +9,8 @@ use native.Mathlib.Numerals.{towards-suc}
 use lib.ListN.{length, getD, take, drop, List·getD-append}
 use lib.Seq.{take-suc, drop-cons, take-add, drop-drop, getD-append-add, getD-at}
 use Rattle.book.specs.declared.Entry.{Entry}
-use Rattle.book.specs.Book.{headerLength, entryLength, entryStart, entryAt, entriesOf, noEntry, entryBytes, entriesBytes}
+use Rattle.book.specs.Book.{headerLength, entryLength, entryStart, entryAt, entriesOf, noEntry}
+use Rattle.book.specs.Written.{entryBytes, entriesBytes}
 use Rattle.book.proofs.Loading.{entries-length}
 
 -- m bytes from k on, one by one

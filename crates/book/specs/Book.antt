@@ -1,9 +1,9 @@
 -- The book as bytes and as it is kept. Bytes: "TLB", 16-bit version 0001, role, version mask, 16-bit limit, count n, then n entries of 7:
 -- p0 to p4, form, w. Numbers are big-endian. Assumes nothing.
-use Prim.Native.Nat.{ℕ, zero, suc, _+_, _*_, _-_, _/_, _%_}
+use Prim.Native.Nat.{ℕ, zero, suc, _+_, _*_, _-_}
 use mathlib.Core.List.{List, [], _∷_, _++_}
 use mathlib.Core.Bool.{Bool, _&&_}
-use lib.ListN.{getD, take, replicate}
+use lib.ListN.{getD, replicate}
 use lib.Dec.{eqb}
 use Rattle.book.specs.declared.Entry.{Entry}
 use Rattle.book.specs.declared.Book.{Book}
@@ -39,6 +39,9 @@ abbrev pub mostEntries : ℕ
 mostEntries = 8
 
 -- where each field of the header starts
+abbrev pub markAt : ℕ
+markAt = 0
+
 abbrev pub versionAt : ℕ
 versionAt = 3
 
@@ -58,6 +61,13 @@ countAt = 9
 abbrev pub entryStart : ℕ → ℕ → ℕ
 entryStart version i = headerLength version + entryLength * i
 
+-- where in an entry its form and its w stand
+abbrev pub formIn : ℕ
+formIn = 5
+
+abbrev pub widthIn : ℕ
+widthIn = 6
+
 -- the 16-bit number at k
 abbrev pub wordAt : List ℕ → ℕ → ℕ
 wordAt s k = 256 * getD s k 0 + getD s (k + 1) 0
@@ -74,8 +84,8 @@ entryAt s k = record {
   p2 = getD s (k + 2) 0;
   p3 = getD s (k + 3) 0;
   p4 = getD s (k + 4) 0;
-  form = getD s (k + 5) 0;
-  w = getD s (k + 6) 0;
+  form = getD s (k + formIn) 0;
+  w = getD s (k + widthIn) 0;
 }
 
 -- the first n entries of s, read as a book of that version
@@ -127,22 +137,3 @@ paramsOf e = e .p0 ∷ e .p1 ∷ e .p2 ∷ e .p3 ∷ e .p4 ∷ []
 abbrev pub sameParams : Entry → Entry → Bool
 sameParams a b =
     eqb (a .p0) (b .p0) && eqb (a .p1) (b .p1) && eqb (a .p2) (b .p2) && eqb (a .p3) (b .p3) && eqb (a .p4) (b .p4)
-
--- A kept book written out again.
-
-abbrev pub wordBytes : ℕ → List ℕ
-wordBytes v = v / 256 ∷ v % 256 ∷ []
-
-abbrev pub entryBytes : Entry → List ℕ
-entryBytes e = paramsOf e ++ (e .form ∷ e .w ∷ [])
-
-unfoldable pub entriesBytes : List Entry → List ℕ
-entriesBytes [] = []
-entriesBytes (e ∷ es) = entryBytes e ++ entriesBytes es
-
-abbrev pub headerBytes : Book → List ℕ
-headerBytes b = mark ++ wordBytes (versionOf b) ++ (b .role ∷ b .mask ∷ []) ++ wordBytes (b .limit) ++ (b .n ∷ [])
-
--- the book's own bytes
-unfoldable pub bookBytes : Book → List ℕ
-bookBytes b = headerBytes b ++ entriesBytes (take (b .n) (b .entries))

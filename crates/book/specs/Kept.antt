@@ -6,8 +6,8 @@ use lib.ListN.{length, drop}
 use lib.Dec.{eqb}
 use Rattle.book.specs.declared.Entry.{Entry}
 use Rattle.book.specs.declared.Book.{Book}
-use Rattle.book.specs.Book.{mostEntries, noEntry, sameParams}
-use Rattle.book.specs.Refusals.{valuesNo, entriesNo}
+use Rattle.book.specs.Book.{mostEntries, noEntry, versionOf, sameParams}
+use Rattle.book.specs.Refusals.{valuesFault, entriesFault}
 
 abbrev pub isNone : Entry → Bool
 isNone e = sameParams e noEntry && eqb (e .form) (noEntry .form) && eqb (e .w) (noEntry .w)
@@ -22,4 +22,5 @@ isPadded es n = eqb (length es) mostEntries && allNone (drop n es)
 
 -- the checks of reading find nothing wrong in the values and the entries, and nothing stands past these
 unfoldable pub bookOk : Book → Bool
-bookOk b = eqb (valuesNo b) 0 && eqb (entriesNo b) 0 && isPadded (b .entries) (b .n)
+bookOk b =
+    eqb (valuesFault b .number) 0 && eqb (entriesFault (versionOf b) b .number) 0 && isPadded (b .entries) (b .n)

@@ -5,26 +5,35 @@ use mathlib.Core.Bool.{Bool, cond, _&&_}
 use lib.ListN.{take, drop}
 use lib.Dec.{ltb, eqb}
 use Rattle.book.specs.declared.Book.{Book}
+use Rattle.book.specs.declared.Fault.{Fault}
 use Rattle.book.specs.declared.Verdict.{Verdict}
 use Rattle.book.specs.declared.Verdict.the-variants.{Accepted, Refused}
 use Rattle.book.specs.declared.BookRead.{BookRead}
 use Rattle.book.specs.Book.{entryLength, entryStart, versionIn, bookOf, noBook}
-use Rattle.book.specs.Refusals.{bookNo}
+use Rattle.book.specs.Refusals.{nothingWrong, bookFault, bookNo}
+
+-- what each verdict says is wrong: nothing with an accepted book
+abbrev pub faultOf : Verdict → Fault
+faultOf Accepted = nothingWrong
+faultOf (Refused f) = f
 
 -- the number of each verdict: 0 for an accepted book
 abbrev pub numberOf : Verdict → ℕ
-numberOf Accepted = 0
-numberOf (Refused k) = k
+numberOf v = faultOf v .number
+
+-- the offset of the first offending byte: 0 for an accepted book
+abbrev pub offsetOf : Verdict → ℕ
+offsetOf v = faultOf v .offset
 
 abbrev pub accepts : Book → BookRead
 accepts b = record { verdict = Accepted; book = b }
 
--- a refusal yields the number alone
-abbrev pub refuses : ℕ → BookRead
-refuses k = record { verdict = Refused k; book = noBook }
+-- a refusal yields the number and the offset alone
+abbrev pub refuses : Fault → BookRead
+refuses f = record { verdict = Refused f; book = noBook }
 
 unfoldable pub readBook : List ℕ → BookRead
-readBook s = cond (eqb (bookNo s) 0) (accepts (bookOf s)) (refuses (bookNo s))
+readBook s = cond (eqb (bookNo s) 0) (accepts (bookOf s)) (refuses (bookFault s))
 
 -- s is accepted and has an entry i
 unfoldable pub hasEntry : List ℕ → ℕ → Bool

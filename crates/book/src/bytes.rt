@@ -3,13 +3,15 @@ ghost use mathlib.Core.Path.{_≡_};
 ghost use Prim.Native.Nat.{_+_, _*_, _<_, _≤_};
 ghost use lib.ListN.{length};
 ghost use Rattle.book.specs.Book.{leastHeader, headerLength, entryLength, mostEntries, entryStart, versionIn, entryAt, keptEntries, headerOf};
-ghost use Rattle.book.specs.Refusals.{isMark, startNo, lengthNo};
+ghost use Rattle.book.specs.Refusals.{fault, isMark, startFault, lengthFault};
 use super::Book;
 use super::Entry;
+use super::Fault;
 use super::MOST_ENTRIES;
 use super::NO_ENTRIES;
+use super::NOTHING_WRONG;
 
-const BOOK_VERSION: u16 = 1;
+pub(crate) const BOOK_VERSION: u16 = 1;
 
 // The bytes of the shortest header.
 const LEAST_HEADER: usize = 10;
@@ -17,15 +19,29 @@ const LEAST_HEADER: usize = 10;
 pub(crate) const ENTRY_LENGTH: usize = 7;
 
 // Where each field of the header starts.
+const MARK_AT: usize = 0;
+
 const VERSION_AT: usize = 3;
 
-const ROLE_AT: usize = 5;
+pub(crate) const ROLE_AT: usize = 5;
 
-const MASK_AT: usize = 6;
+pub(crate) const MASK_AT: usize = 6;
 
-const LIMIT_AT: usize = 7;
+pub(crate) const LIMIT_AT: usize = 7;
 
-const COUNT_AT: usize = 9;
+pub(crate) const COUNT_AT: usize = 9;
+
+// Where in an entry its form and its w stand.
+pub(crate) const FORM_IN: usize = 5;
+
+pub(crate) const WIDTH_IN: usize = 6;
+
+// A number of refusal and an offset.
+pub(crate) fn fault(number: u8, offset: usize) -> Fault
+    ensures { λ r. ⌜ r ≡ fault number offset ⌝ }
+{
+    Fault { number, offset }
+}
 
 // The 16-bit number of two bytes.
 fn word(high: u8, low: u8) -> u16
@@ -50,19 +66,19 @@ pub(crate) fn version_in(s: &[u8]) -> u16
 }
 
 // 1 for fewer than 10 bytes, 2 and 3.
-pub(crate) fn start_no(s: &[u8]) -> u8
-    ensures { λ r. ⌜ r ≡ startNo (now (s .entry)) ⌝ }
+pub(crate) fn start_fault(s: &[u8]) -> Fault
+    ensures { λ r. ⌜ r ≡ startFault (now (s .entry)) ⌝ }
 {
     if s.len() < LEAST_HEADER {
-        return 1;
+        return fault(1, s.len());
     }
     if !is_mark(s) {
-        return 2;
+        return fault(2, MARK_AT);
     }
     if version_in(s) != BOOK_VERSION {
-        return 3;
+        return fault(3, VERSION_AT);
     }
-    0
+    NOTHING_WRONG
 }
 
 // The bytes before the entries, by the book's version: 10 in the only one.
@@ -81,17 +97,17 @@ pub(crate) fn entry_start(version: u16, i: usize) -> usize
 }
 
 // 1 for fewer than 10+7n bytes, and 11.
-pub(crate) fn length_no(version: u16, s: &[u8], n: u8) -> u8
-    ensures { λ r. ⌜ r ≡ lengthNo version (now (s .entry)) n ⌝ }
+pub(crate) fn length_fault(version: u16, s: &[u8], n: u8) -> Fault
+    ensures { λ r. ⌜ r ≡ lengthFault version (now (s .entry)) n ⌝ }
 {
     let end = entry_start(version, n as usize);
     if s.len() < end {
-        return 1;
+        return fault(1, s.len());
     }
     if end < s.len() {
-        return 11;
+        return fault(11, end);
     }
-    0
+    NOTHING_WRONG
 }
 
 // The values of s, with no entries yet.
@@ -120,8 +136,8 @@ fn entry_at(s: &[u8], k: usize) -> Entry
         p2: s[k + 2],
         p3: s[k + 3],
         p4: s[k + 4],
-        form: s[k + 5],
-        w: s[k + 6],
+        form: s[k + FORM_IN],
+        w: s[k + WIDTH_IN],
     }
 }
 

@@ -4,14 +4,24 @@ ghost use Prim.Native.Nat.{_<_, _≤_};
 ghost use mathlib.Core.List.{[]};
 ghost use lib.ListN.{getD, take};
 ghost use Rattle.book.specs.Book.{mostEntries, noEntry, sameParams};
-ghost use Rattle.book.specs.Refusals.{isMask, wrongCount, valuesNo, isForm, isWidth, isBarred, seenIn, entryNo, eachNo};
+ghost use Rattle.book.specs.Refusals.{isMask, wrongCount, valuesFault, isForm, isWidth, isBarred, seenIn, entryFault, eachFault};
 ghost use Rattle.book.specs.Kept.{isNone, isPadded};
 use super::ANSWERING;
 use super::Book;
 use super::Entry;
+use super::Fault;
 use super::MOST_ENTRIES;
 use super::NO_ENTRY;
+use super::NOTHING_WRONG;
 use super::ORIGINATING;
+use super::bytes::COUNT_AT;
+use super::bytes::FORM_IN;
+use super::bytes::LIMIT_AT;
+use super::bytes::MASK_AT;
+use super::bytes::ROLE_AT;
+use super::bytes::WIDTH_IN;
+use super::bytes::entry_start;
+use super::bytes::fault;
 
 const LEAST_LIMIT: u16 = 425;
 
@@ -29,22 +39,22 @@ fn wrong_count(role: u8, n: u8) -> bool
 }
 
 // 4 to 7.
-pub(crate) fn values_no(b: Book) -> u8
-    ensures { λ r. ⌜ r ≡ valuesNo b ⌝ }
+pub(crate) fn values_fault(b: Book) -> Fault
+    ensures { λ r. ⌜ r ≡ valuesFault b ⌝ }
 {
     if ANSWERING < b.role {
-        return 4;
+        return fault(4, ROLE_AT);
     }
     if !is_mask(b.mask) {
-        return 5;
+        return fault(5, MASK_AT);
     }
     if b.limit < LEAST_LIMIT {
-        return 6;
+        return fault(6, LIMIT_AT);
     }
     if wrong_count(b.role, b.n) {
-        return 7;
+        return fault(7, COUNT_AT);
     }
-    0
+    NOTHING_WRONG
 }
 
 fn is_form(form: u8) -> bool
@@ -92,38 +102,41 @@ fn seen(es: [Entry; MOST_ENTRIES], i: usize, e: Entry) -> bool
     found
 }
 
-// 8, 9 and 10 of entry i.
-fn entry_no(es: [Entry; MOST_ENTRIES], i: usize, mask: u8) -> u8
-    requires { ⌜ i < mostEntries ⌝ }
-    ensures { λ r. ⌜ r ≡ entryNo mask (take i es) (getD es i noEntry) ⌝ }
+// 8, 17, 9 and 10 of entry i, which starts at that byte.
+fn entry_fault(es: [Entry; MOST_ENTRIES], i: usize, start: usize, mask: u8) -> Fault
+    requires { ⌜ (i < mostEntries) × (start < 2048) ⌝ }
+    ensures { λ r. ⌜ r ≡ entryFault mask (take i es) start (getD es i noEntry) ⌝ }
 {
     let e = es[i];
-    if !(is_form(e.form) & is_width(e.form, e.w)) {
-        return 8;
+    if !is_form(e.form) {
+        return fault(8, start + FORM_IN);
+    }
+    if !is_width(e.form, e.w) {
+        return fault(17, start + WIDTH_IN);
     }
     if is_barred(mask, e.form) {
-        return 9;
+        return fault(9, start + FORM_IN);
     }
     if seen(es, i, e) {
-        return 10;
+        return fault(10, start);
     }
-    0
+    NOTHING_WRONG
 }
 
-// 8, 9 and 10 of the first n entries, entry by entry.
-pub(crate) fn entries_no(es: [Entry; MOST_ENTRIES], n: usize, mask: u8) -> u8
+// 8, 17, 9 and 10 of the first n entries of a book of that version, entry by entry.
+pub(crate) fn entries_fault(version: u16, es: [Entry; MOST_ENTRIES], n: usize, mask: u8) -> Fault
     requires { ⌜ n ≤ mostEntries ⌝ }
-    ensures { λ r. ⌜ r ≡ eachNo mask [] (take n es) ⌝ }
+    ensures { λ r. ⌜ r ≡ eachFault version mask [] (take n es) ⌝ }
 {
     let mut i = 0;
     while i < n {
-        let no = entry_no(es, i, mask);
-        if no != 0 {
-            return no;
+        let found = entry_fault(es, i, entry_start(version, i), mask);
+        if found.number != 0 {
+            return found;
         }
         i += 1;
     }
-    0
+    NOTHING_WRONG
 }
 
 fn is_none(e: Entry) -> bool

@@ -1,8 +1,8 @@
 // The book that configures a unit: its bytes are read and kept, or refused by number, and a kept book is checked again.
 ghost use mathlib.Core.Path.{_≡_};
 ghost use Prim.Native.Nat.{_+_};
-ghost use Rattle.book.specs.Reading.{numberOf, refuses, readBook, entryPart, partAt};
-ghost use Rattle.book.specs.Refusals.{bookNo};
+ghost use Rattle.book.specs.Reading.{faultOf, numberOf, offsetOf, refuses, readBook, entryPart, partAt};
+ghost use Rattle.book.specs.Refusals.{bookNo, bookOffset};
 ghost use Rattle.book.specs.Kept.{bookOk};
 
 mod bytes; // bytes.rt: what stands where in the bytes, and the checks of the bytes themselves
@@ -34,9 +34,15 @@ pub struct Book {
     pub entries: [Entry; MOST_ENTRIES],
 }
 
+// What is wrong: the number of refusal, and the offset of the first offending byte. Number 0 where nothing is wrong.
+pub struct Fault {
+    pub number: u8,
+    pub offset: usize,
+}
+
 pub enum Verdict {
     Accepted,
-    Refused(u8),
+    Refused(Fault),
 }
 
 // The verdict, with the kept book where it accepts, and zeros where it refuses.
@@ -56,6 +62,11 @@ pub const NO_ENTRY: Entry = Entry {
     w: 0,
 };
 
+const NOTHING_WRONG: Fault = Fault {
+    number: 0,
+    offset: 0,
+};
+
 const NO_ENTRIES: [Entry; MOST_ENTRIES] = [NO_ENTRY; MOST_ENTRIES];
 
 // What stands beside a refusal.
@@ -67,48 +78,62 @@ const NO_BOOK: Book = Book {
     entries: NO_ENTRIES,
 };
 
+fn fault_of(v: Verdict) -> Fault
+    ensures { λ r. ⌜ r ≡ faultOf v ⌝ }
+{
+    match v {
+        Verdict::Accepted => NOTHING_WRONG,
+        Verdict::Refused(f) => f,
+    }
+}
+
 // The verdict's number: 0 for an accepted book.
 pub fn number(v: Verdict) -> u8
     ensures { λ r. ⌜ r ≡ numberOf v ⌝ }
 {
-    match v {
-        Verdict::Accepted => 0,
-        Verdict::Refused(k) => k,
-    }
+    fault_of(v).number
 }
 
-fn refused(k: u8) -> BookRead
-    ensures { λ r. ⌜ r ≡ refuses k ⌝ }
+// The offset of the first offending byte: 0 for an accepted book.
+pub fn offset(v: Verdict) -> usize
+    ensures { λ r. ⌜ r ≡ offsetOf v ⌝ }
+{
+    fault_of(v).offset
+}
+
+fn refused(f: Fault) -> BookRead
+    ensures { λ r. ⌜ r ≡ refuses f ⌝ }
 {
     BookRead {
-        verdict: Verdict::Refused(k),
+        verdict: Verdict::Refused(f),
         book: NO_BOOK,
     }
 }
 
-// The book of s, or the number that refuses it.
+// The book of s, or the number that refuses it and the offset of the first offending byte.
 pub fn read_book(s: &[u8]) -> BookRead
     ensures { λ r. ⌜ r ≡ readBook (now (s .entry)) ⌝ }
     ensures number { λ r. ⌜ numberOf (r .verdict) ≡ bookNo (now (s .entry)) ⌝ }
+    ensures offset { λ r. ⌜ offsetOf (r .verdict) ≡ bookOffset (now (s .entry)) ⌝ }
 {
-    let start = bytes::start_no(s);
-    if start != 0 {
+    let start = bytes::start_fault(s);
+    if start.number != 0 {
         return refused(start);
     }
     let mut book = bytes::header(s);
-    let values = checks::values_no(book);
-    if values != 0 {
+    let values = checks::values_fault(book);
+    if values.number != 0 {
         return refused(values);
     }
     let version = bytes::version_in(s);
-    let length = bytes::length_no(version, s, book.n);
-    if length != 0 {
+    let length = bytes::length_fault(version, s, book.n);
+    if length.number != 0 {
         return refused(length);
     }
     let n = book.n as usize;
     let es = bytes::load(version, s, n);
-    let entries = checks::entries_no(es, n, book.mask);
-    if entries != 0 {
+    let entries = checks::entries_fault(version, es, n, book.mask);
+    if entries.number != 0 {
         return refused(entries);
     }
     book.entries = es;
@@ -140,12 +165,14 @@ pub fn entry_part(s: &[u8], i: usize) -> &[u8]
 pub fn book_ok(b: Book) -> bool
     ensures { λ r. ⌜ r ≡ bookOk b ⌝ }
 {
-    if checks::values_no(b) != 0 {
+    let values = checks::values_fault(b);
+    if values.number != 0 {
         return false;
     }
     let es = b.entries;
     let n = b.n as usize;
-    if checks::entries_no(es, n, b.mask) != 0 {
+    let entries = checks::entries_fault(bytes::BOOK_VERSION, es, n, b.mask);
+    if entries.number != 0 {
         return false;
     }
     checks::is_padded(es, n)

@@ -1,12 +1,12 @@
 -- The sentences of document 01 as figures: what the paper writes, in numbers, beside what the definitions give, on both sides of each line
 -- that a sentence draws. The tables stand in the crates whose definitions they hold; here all of them are cited. Assumes nothing.
 use mathlib.Core.Path.{_≡_}
-use mathlib.Core.Bool.{true, false}
-use mathlib.Core.List.{List, _++_}
+use mathlib.Core.Bool.{true, false, _&&_}
+use mathlib.Core.List.{List, [], _++_}
 use mathlib.Core.Logic.{_↔_}
 use Prim.Native.Nat.{ℕ, _*_, _-_, _^_, _<_, _≤_}
 use lib.Dec.{eqb}
-use lib.ListN.{length, replicate}
+use lib.ListN.{length, take, replicate}
 use Rattle.ground.specs.Digits.{allBelow}
 use Rattle.ground.specs.Lists.{isAmong}
 use Rattle.ground.proofs.Figures.{AmongAsListed, among-as-listed}
@@ -26,11 +26,14 @@ use Rattle.packing.proofs.Figures.{PackedAsCounted, packed-as-counted, PackingR
 use Rattle.packing.proofs.Figures.{WrittenAsPromised, written-as-promised}
 use Rattle.packing.proofs.Trips.{bits-kept-back}
 use Rattle.book.specs.declared.Book.{Book}
-use Rattle.book.specs.Book.{entriesBytes, bookBytes}
+use Rattle.book.specs.Written.{entriesBytes, bookBytes}
 use Rattle.book.specs.Reading.{accepts, readBook}
-use Rattle.book.specs.Kept.{bookOk}
+use Rattle.book.specs.Refusals.{valuesFault, entriesFault}
+use Rattle.book.specs.Kept.{isPadded, bookOk}
 use Rattle.book.proofs.Samples.{BookFigures, book-figures}
 use Rattle.book.proofs.RoundTrip.{passes-exactly, written-bytes}
+use Rattle.book.proofs.Base.{in01, eachNo01, entries-as-01, kept-as-01}
+use Rattle.bookwords.proofs.Figures.{BookTold, book-told}
 use Rattle.text.specs.Numerals.{decimalOf}
 use Rattle.text.proofs.Figures.{readFrom, Figures, figures, read-back}
 use Rattle.protocol.specs.Answers.{saysOutcome, saysReply}
@@ -98,20 +101,26 @@ pub record BookHeld : Type 0 where
   pub figures : BookFigures
   -- the check of a kept book is true exactly of the books that reading yields, and what such a book is written out as is bytes
   pub exactly : (b : Book) → (bookOk b ≡ true) ↔ ((s : List ℕ) × (readBook s ≡ accepts b))
+  -- told as document 01 told them, the numbers are its own, and the check of a kept book passes what it passed there
+  pub numbers : (version : ℕ) (b : Book) → in01 (entriesFault version b .number) ≡ eachNo01 (b .mask) [] (take (b .n) (b .entries))
+  pub kept : (b : Book) → bookOk b
+      ≡ (eqb (valuesFault b .number) 0 && eqb (eachNo01 (b .mask) [] (take (b .n) (b .entries))) 0 && isPadded (b .entries) (b .n))
   pub bytes : (b : Book) → bookOk b ≡ true → b .limit < 2 ^ 16 → allBelow 256 (entriesBytes (b .entries)) ≡ true
       → allBelow 256 (bookBytes b) ≡ true
 
 book-held : BookHeld
-book-held = record { figures = book-figures; exactly = passes-exactly; bytes = written-bytes }
+book-held =
+    record { figures = book-figures; exactly = passes-exactly; numbers = entries-as-01; kept = kept-as-01; bytes = written-bytes }
 
 -- Numbers as they are written, lines and scripts.
 pub record TextHeld : Type 0 where
   pub numerals : Figures
   pub back : (n : ℕ) → n < 65536 → readFrom 0 (decimalOf n) ≡ n
   pub scripts : ScriptFigures
+  pub books : BookTold
 
 text-held : TextHeld
-text-held = record { numerals = figures; back = read-back; scripts = script-figures }
+text-held = record { numerals = figures; back = read-back; scripts = script-figures; books = book-told }
 
 -- One slot, 12 and 13 and the ranges; the answers in numbers; the worked figures of the joined pair.
 pub record EndHeld : Type 0 where

@@ -1,8 +1,9 @@
 -- What a proof unfolds to compute slots. `unfolding moving` unfolds every definition that a slot computes with, but the identifier, of which
 -- no law speaks but by its name; `unfolding computing` unfolds that too, for figures. Assumes nothing.
 use Prim.Native.Nat.{ℕ}
-use Rattle.book.specs.Book.{headerLength, versionIn as bookVersionIn, entriesOf, keptEntries, versionOf, entriesBytes, bookBytes}
-use Rattle.book.specs.Refusals.{startNo, valuesNo, lengthNo, seenIn, entryNo, eachNo, entriesNo, bookNo}
+use Rattle.book.specs.Book.{headerLength, versionIn as bookVersionIn, entriesOf, keptEntries, versionOf}
+use Rattle.book.specs.Written.{entriesBytes, bookBytes}
+use Rattle.book.specs.Refusals.{startFault, valuesFault, lengthFault, seenIn, entryFault, eachFault, entriesFault, bookFault}
 use Rattle.book.specs.Kept.{allNone, isPadded, bookOk}
 use Rattle.channel.specs.Bytes.{laid, signalling, sdByte, dlByte, dhByte}
 use Rattle.channel.specs.Kinds.{kindNumber, nibbleIn, leadsIn, kindFrom, kindOf, howMany}
@@ -21,8 +22,8 @@ use Rattle.protocol.specs.Joined.{joined, joinedSlot}
 
 unfoldable pub moving : ℕ
 unfolding
-    headerLength bookVersionIn versionOf entriesOf keptEntries entriesBytes bookBytes startNo valuesNo lengthNo seenIn entryNo
-    eachNo entriesNo bookNo allNone isPadded bookOk laid signalling sdByte dlByte dhByte kindNumber nibbleIn leadsIn kindFrom
+    headerLength bookVersionIn versionOf entriesOf keptEntries entriesBytes bookBytes startFault valuesFault lengthFault seenIn entryFault
+    eachFault entriesFault bookFault allNone isPadded bookOk laid signalling sdByte dlByte dhByte kindNumber nibbleIn leadsIn kindFrom
     kindOf howMany fits unitByte unitIn encoded decoded sameBothWays wordFits encodedWord wordOf highestUpTo highest shared
     majorities voted val digits allBelow identifierRun parameterRun parameterLead ofRun valueOf inRun inGroup hearAt byteSent
     parameterSent firstExchange matchIn acted fateHeard chosenOriginating chosenAnswering sentAs advanced fateSent sends turn

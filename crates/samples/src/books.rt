@@ -260,3 +260,33 @@ pub(crate) fn pair(mask_o: u8, mask_a: u8, limit: u16, delay: u8) -> [u8; 35] {
         delay,
     ]
 }
+
+// An answerer's two entries, the second of this form and word length.
+pub(crate) fn two(form: u8, w: u8) -> [u8; 24] {
+    [
+        b'T',
+        b'L',
+        b'B',
+        0,
+        1,
+        1,
+        3,
+        1,
+        244,
+        2,
+        1,
+        2,
+        3,
+        4,
+        5,
+        7,
+        0,
+        1,
+        2,
+        3,
+        4,
+        6,
+        form,
+        w,
+    ]
+}

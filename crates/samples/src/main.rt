@@ -1,5 +1,6 @@
-// samples: runs the samples of document 01 that are to be run, and tells what came beside what it says.
+// samples: runs the samples of document 01 that are to be run, and of its requests, and tells what came beside what is said.
 use book::number;
+use book::offset;
 use book::read_book;
 use channel::byte::ChannelByte;
 use console::Failure;
@@ -28,8 +29,8 @@ const CLOSED: i32 = -1;
 fn explain() {
     io::write_all(
         STDERR_FILENO,
-        b"samples runs the samples of document 01 that are to be run, and reads nothing.\n\
-It prints for each sample what is run, what came and what 01 says of it:\n  \
+        b"samples runs the samples of document 01 and of its requests, and reads nothing.\n\
+It prints for each sample what is run, what came and what 01 or 02 says of it:\n  \
 limit 424\n  \
 came:\n  \
 refused 6\n  \
@@ -59,6 +60,10 @@ fn ended(by: &[u8], says: &[u8]) -> bool {
 
 fn show(sample: &[u8], came: Text, says: &[u8]) -> bool {
     begun(sample) && put_text(came) && ended(b"01 says:\n", says)
+}
+
+fn show_02(sample: &[u8], came: Text, says: &[u8]) -> bool {
+    begun(sample) && put_text(came) && ended(b"02 says:\n", says)
 }
 
 fn sent(r: Reply) -> u8 {
@@ -99,6 +104,15 @@ fn verdict(s: &[u8]) -> Text {
     word(decimal(word(empty(), b"refused "), refusal as u16), b"\n")
 }
 
+// The number that refuses s, and the first offending byte.
+fn place(s: &[u8]) -> Text {
+    let answer = read_book(s);
+    let verdict = answer.verdict;
+    let byte = offset(verdict);
+    let numbered = decimal(word(empty(), b"refused "), number(verdict) as u16);
+    word(decimal(word(numbered, b" at byte "), byte as u16), b"\n")
+}
+
 fn joined(mask_o: u8, mask_a: u8, limit: u16, delay: u8) -> Text {
     report(&books::pair(mask_o, mask_a, limit, delay))
 }
@@ -124,6 +138,20 @@ fn limits() -> bool {
 fn entries() -> bool {
     show(b"nine entries", verdict(&books::NINE), b"refused 7\n")
         && show(b"eight entries", verdict(&books::EIGHT), b"accepted\n")
+}
+
+// #101: a wrong form and a wrong word length are told apart, each at its byte.
+fn places() -> bool {
+    show_02(
+        b"form 5 in the second entry",
+        place(&books::two(5, 0)),
+        b"refused 8 at byte 22\n",
+    )
+        && show_02(
+            b"form 0 there, with a word length of 9",
+            place(&books::two(0, 9)),
+            b"refused 17 at byte 23\n",
+        )
 }
 
 fn delays() -> bool {
@@ -185,6 +213,7 @@ fn main() {
         && limits()
         && delays()
         && entries()
+        && places()
         && examples()
         && closed_input()
         && closed_output();

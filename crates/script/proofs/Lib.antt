@@ -1,6 +1,5 @@
 mod Slots
 pub mod SaysTrue
-mod Filling
 pub mod LineLength
 mod Telling
 mod Saying

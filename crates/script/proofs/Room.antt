@@ -1,13 +1,11 @@
--- How much of what a script says stands in a buffer; and a buffer that has room for what any script says. Assumes nothing.
-use mathlib.Core.Path.{_≡_, refl, ap, sym, _∙_}
+-- A buffer that has room for what any script says. Assumes nothing.
+use mathlib.Core.Path.{_≡_, refl}
 use mathlib.Core.Bool.{Bool, true, false, cond, _&&_}
-use mathlib.Core.List.{List, [], _∷_, _++_}
-use Prim.Native.Nat.{ℕ, suc, _+_, _-_, _*_, _≤_, _<_, min}
-use native.Mathlib.Nat.{min-le-right, min-eq-left}
+use mathlib.Core.List.{List, [], _∷_}
+use Prim.Native.Nat.{ℕ, _+_, _-_, _*_, _≤_, _<_, min}
 use native.Mathlib.Omega.{arith}
 use lib.Dec.{eqb, ltb, leb}
-use lib.ListN.{length, take, drop, length-append, length-drop}
-use lib.Seq.{length-take-le, take-all, take-append-seam}
+use lib.ListN.{length, take, length-append, length-drop}
 use borrow.Author.Tests.{leb-true, eqb-true}
 use Rattle.ground.specs.Digits.{bit}
 use Rattle.ground.proofs.Test.{both-left, both-right}
@@ -28,26 +26,14 @@ use Rattle.protocol.specs.Ranges.{allZero, isVersion, outboundIn, inboundIn, ph
 use Rattle.protocol.specs.Slot.{Step, stepOf, offerAllowed, outcomeAt, outcomeOf, passes, refuses, slotOf, started, startOf}
 use Rattle.protocol.proofs.Kept.StateKept.{started-kept, slot-kept}
 use Rattle.text.specs.Numerals.{decimalOf}
+use Rattle.text.specs.Output.{over}
 use Rattle.script.specs.Input.{bookIn, slotsIn, scriptFault, driveOf}
 use Rattle.script.specs.Line.{sentField, deliveredField, takenField, refusalNote, replyFields, signalsField, standsField, detailField, outcomeFields}
-use Rattle.script.specs.Output.{lineBy, linesFrom, bookRefused, saysStarted, scriptSays, over}
+use Rattle.script.specs.Output.{lineBy, linesFrom, bookRefused, saysStarted, scriptSays}
 use Rattle.text.proofs.Lengths.{decimal-most, one-digit, parameters-length}
+use Rattle.text.proofs.Filling.{written-whole}
 use Rattle.script.proofs.LineLength.{signals-length, passed-most, outcome-most, line-length}
 use Rattle.script.proofs.Saying.{refusal-fits, fine}
-
-over-length : (xs out : List ℕ) → length (over xs out) ≡ length out
-over-length [] [] = refl
-over-length [] (y ∷ out) = refl
-over-length (x ∷ xs) [] = refl
-over-length (x ∷ xs) (y ∷ out) = ap suc (over-length xs out)
-
--- the part of the buffer that was written is as long as the reply says
-pub written : (s out : List ℕ) {r : ℕ} → r ≡ min (length (scriptSays s)) (length out)
-    → {after : List ℕ} → after ≡ over (scriptSays s) out → r ≡ length (take r after)
-written s out {r} er {after} ea =
-    let l : length after ≡ length out = ap length ea ∙ over-length (scriptSays s) out in
-    let h : r ≤ length after = omega (arith, min-le-right (length (scriptSays s)) (length out)) in
-    sym (length-take-le r after h)
 
 -- an end that is well formed has a version of one digit
 module _ (e : Endpoint) where
@@ -140,9 +126,4 @@ any-script-fits s = by (scriptFault s) refl
 -- so that the part of such a buffer that was written is all that the script says
 pub all-said : (s out : List ℕ) → 17 * 65536 ≤ length out → {r : ℕ} → r ≡ min (length (scriptSays s)) (length out)
     → {after : List ℕ} → after ≡ over (scriptSays s) out → take r after ≡ scriptSays s
-all-said s out room {r} er {after} ea =
-    let h : length (scriptSays s) ≤ length out = omega (arith, any-script-fits s) in
-    let n : r ≡ length (scriptSays s) = er ∙ min-eq-left h in
-    ap (λ (k : ℕ). take k after) n
-    ∙ ap (take (length (scriptSays s))) (ea ∙ ap (λ (l : List ℕ). l ++ drop (length (scriptSays s)) out) (take-all (length out) (scriptSays s) h))
-    ∙ take-append-seam (scriptSays s) (drop (length (scriptSays s)) out)
+all-said s out room er ea = written-whole (scriptSays s) out er ea (omega (arith, any-script-fits s))

@@ -1,40 +1,21 @@
 -- What a script says, by its parts: a text alone, or the lines of its slots. Assumes nothing.
-use mathlib.Core.Path.{_≡_, ap, sym, _∙_, subst}
+use mathlib.Core.Path.{_≡_, ap, sym, _∙_}
 use mathlib.Core.Bool.{Bool, true, false, _||_}
-use mathlib.Core.List.{List, [], append-nil}
-use Prim.Native.Nat.{ℕ, _+_, _-_, _≤_, min}
-use native.Mathlib.Nat.{min-le-right}
+use mathlib.Core.List.{List}
+use Prim.Native.Nat.{ℕ, _-_, _≤_}
 use native.Mathlib.Omega.{arith}
 use lib.Dec.{ltb}
 use lib.ListN.{length, take, drop, length-append}
-use lib.Seq.{paste}
 use borrow.Author.Tests.{ltb-false, ne-eqb}
 use Rattle.book.specs.Reading.{numberOf, readBook}
 use Rattle.protocol.specs.declared.Start.{Start}
 use Rattle.protocol.specs.Slot.{startOf}
-use Rattle.text.specs.declared.Text.{Text}
-use Rattle.text.specs.Text.{room, text}
+use Rattle.text.specs.Text.{room}
 use Rattle.text.specs.Ascii.{ascii}
 use Rattle.script.specs.Input.{mostBytes, bookLength, bookIn, slotsAt, slotsIn, slotsFault, scriptFault}
-use Rattle.script.specs.Output.{linesFrom, bookRefused, saysFrom, scriptSays, over}
+use Rattle.script.specs.Output.{linesFrom, bookRefused, saysFrom, scriptSays}
 use Rattle.text.proofs.Lengths.{decimal-most}
 use Rattle.script.proofs.Slots.{or-left, or-right}
-use Rattle.script.proofs.Filling.{SoFar, begin, go-on, finish-buffer, finish-count}
-
--- a text is all that is said
-pub said-alone : {whole : List ℕ} (xs out : List ℕ) → whole ≡ xs → length xs ≤ room → {t : Text} → t ≡ text xs
-    → {r : ℕ} → r ≡ 0 + min (t .length) (length out - 0)
-    → {after : List ℕ} → after ≡ paste out 0 (t .bytes) (min (t .length) (length out - 0))
-    → (r ≡ min (length whole) (length out)) × (after ≡ over whole out)
-said-alone {whole} xs out e fits et er eb =
-    let f = go-on xs [] fits (subst (λ (l : List ℕ). SoFar whole out l out 0) (e ∙ sym (append-nil xs)) (begin whole out)) et er eb in
-    (finish-count f, finish-buffer f)
-
--- what is said is w
-pub said-as : {whole w : List ℕ} (out : List ℕ) → whole ≡ w → {r : ℕ} → r ≡ min (length w) (length out) → {after : List ℕ} → after ≡ over w out
-    → (r ≡ min (length whole) (length out)) × (after ≡ over whole out)
-said-as out e er eb =
-    (er ∙ ap (λ (l : List ℕ). min (length l) (length out)) (sym e), eb ∙ ap (λ (l : List ℕ). over l out) (sym e))
 
 pub refusal-fits : (number : ℕ) → length (bookRefused number) ≤ room
 unfolding bookRefused

@@ -2,7 +2,7 @@
 use mathlib.Core.Path.{_≡_, ap, sym, _∙_, subst}
 use mathlib.Core.Bool.{false}
 use mathlib.Core.List.{List, [], _++_}
-use Prim.Native.Nat.{ℕ, _+_, _-_, _≤_, _<_, min}
+use Prim.Native.Nat.{ℕ, _+_, _≤_, _<_, min}
 use native.Mathlib.Omega.{arith}
 use lib.ListN.{length, drop, getD, drop-of-length-le}
 use lib.Seq.{paste}
@@ -13,11 +13,12 @@ use Rattle.protocol.specs.declared.SlotAnswer.{SlotAnswer}
 use Rattle.protocol.specs.Slot.{slotOf, outcomeOf}
 use Rattle.text.specs.declared.Text.{Text}
 use Rattle.text.specs.Text.{text}
+use Rattle.text.specs.Output.{over, putCount}
+use Rattle.text.proofs.Filling.{SoFar, begin, go-on, finish-buffer, finish-count}
 use Rattle.script.specs.Input.{mostBytes, slotsFault, driveOf}
 use Rattle.script.specs.Line.{lineOf}
-use Rattle.script.specs.Output.{linesFrom, lineBy, over}
+use Rattle.script.specs.Output.{linesFrom, lineBy}
 use Rattle.script.proofs.Slots.{three, whole-slot, rest-whole}
-use Rattle.script.proofs.Filling.{SoFar, begin, go-on, finish-buffer, finish-count}
 use Rattle.script.proofs.LineLength.{line-fits}
 
 -- before the slot at i, which is slot number `place`: the end is in the state e, and what was told stands in out before `at`
@@ -47,8 +48,8 @@ module _ {s : List ℕ} {from : ℕ} {begun : Endpoint} {out₀ out : List ℕ} 
   pub next : i < length s → {g : Drive} → g ≡ driveOf (getD s (i + 1) 0) (getD s (i + 2) 0)
       → {a : SlotAnswer} → a ≡ slotOf e (getD s i 0) g → {o : Outcome} → o ≡ outcomeOf (a .state)
       → {t : Text} → t ≡ text (lineOf place o (a .reply))
-      → {r : ℕ} → r ≡ at + min (t .length) (length out - at)
-      → {after : List ℕ} → after ≡ paste out at (t .bytes) (min (t .length) (length out - at))
+      → {r : ℕ} → r ≡ at + putCount t at out
+      → {after : List ℕ} → after ≡ paste out at (t .bytes) (putCount t at out)
       → Telling s from begun out₀ after (a .state) (place + 1) (i + 3) r
   unfolding linesFrom
   next h eg {a} ea eo et er eb =

@@ -1,9 +1,8 @@
--- What a script says, and how much of it a buffer takes. Assumes nothing.
+-- What a script says. Assumes nothing.
 use mathlib.Core.Bool.{cond}
 use mathlib.Core.List.{List, [], _∷_, _++_}
 use Prim.Native.Nat.{ℕ, _+_}
 use lib.Dec.{eqb}
-use lib.ListN.{length, take, drop}
 use Rattle.book.specs.Reading.{numberOf, readBook}
 use Rattle.protocol.specs.declared.Endpoint.{Endpoint}
 use Rattle.protocol.specs.declared.SlotAnswer.{SlotAnswer}
@@ -41,7 +40,3 @@ unfoldable pub scriptSays : List ℕ → List ℕ
 scriptSays s =
     cond (scriptFault s) (ascii "input refused\n")
     (saysStarted (slotsIn s) (startOf (readBook (bookIn s))))
-
--- a buffer with xs from its start on, as much of it as there is room for, all other places as they were
-abbrev pub over : List ℕ → List ℕ → List ℕ
-over xs out = take (length out) xs ++ drop (length xs) out

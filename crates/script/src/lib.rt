@@ -6,18 +6,19 @@ use endpoint::slot::slot;
 use endpoint::start::start;
 use protocol::Endpoint;
 use text::Text;
+use text::output::put;
 ghost use mathlib.Core.Path.{_≡_};
 ghost use mathlib.Core.Bool.{false};
 ghost use Prim.Native.Nat.{_≤_, min};
 ghost use lib.ListN.{length, drop};
 ghost use Rattle.text.specs.Text.{text};
 ghost use Rattle.text.specs.Ascii.{ascii};
+ghost use Rattle.text.specs.Output.{over};
 ghost use Rattle.script.specs.Input.{mostBytes, slotsFault};
-ghost use Rattle.script.specs.Output.{linesFrom, bookRefused, scriptSays, over};
+ghost use Rattle.script.specs.Output.{linesFrom, bookRefused, scriptSays};
 
 mod input; // input.rt: the test of a script, and what is in it
 pub mod line; // line.rt: the line of a slot
-mod output; // output.rt: a text put into the buffer
 
 fn input_refused() -> Text
     ensures { λ r. ⌜ r ≡ text (ascii "input refused\n") ⌝ }
@@ -48,7 +49,7 @@ fn lines(s: &[u8], from: usize, begun: Endpoint, out: &mut [u8]) -> usize
         let answer = slot(e, ChannelByte(s[i]), input::drive(s[i + 1], s[i + 2]));
         let state = answer.state;
         let reply = answer.reply;
-        at = output::put(line::line(place, outcome(state), reply), out, at);
+        at = put(line::line(place, outcome(state), reply), out, at);
         e = answer.state;
         place = place + 1;
         i = i + 3;
@@ -62,14 +63,14 @@ pub fn run(s: &[u8], out: &mut [u8]) -> usize
     ensures { λ r. ⌜ now (out .exit) ≡ over (scriptSays (now (s .entry))) (now (out .entry)) ⌝ }
 {
     if input::fault(s) {
-        return output::put(input_refused(), out, 0);
+        return put(input_refused(), out, 0);
     }
     let from = input::slots_at(s);
     let begun = start(&s[2..from]);
     let verdict = begun.verdict;
     let refusal = number(verdict);
     if refusal != 0 {
-        return output::put(book_refused(refusal), out, 0);
+        return put(book_refused(refusal), out, 0);
     }
     let e = begun.state;
     lines(s, from, e, out)

@@ -1,4 +1,4 @@
--- Numbers and texts as they are written: at figures, and numbers read back. Assumes nothing.
+-- Numbers and texts as they are written, and texts put into a buffer: at figures, and numbers read back. Assumes nothing.
 use mathlib.Core.Path.{_≡_, refl, ap, _∙_}
 use mathlib.Core.Bool.{Bool, true, false}
 use mathlib.Core.List.{List, [], _∷_, _++_, map, append-assoc}
@@ -7,10 +7,19 @@ use native.Mathlib.Nat.{div-div-eq-div-mul, div-eq-of-lt}
 use native.Mathlib.Omega.{arith}
 use lib.Dec.{ltb}
 use lib.ListN.{replicate}
+use lib.Seq.{paste}
 use borrow.Author.Tests.{ltb-true}
+use Rattle.text.specs.declared.Text.{Text}
 use Rattle.text.specs.Ascii.{ascii}
 use Rattle.text.specs.Numerals.{digit, placeOf, decimalOf, hexOf, parametersOf}
 use Rattle.text.specs.Text.{text, pushed, appended}
+use Rattle.text.specs.Output.{over, putCount}
+
+abbrev okay : Text
+okay = text (ascii "OK!")
+
+abbrev four : List ℕ
+four = 6 ∷ 7 ∷ 8 ∷ 9 ∷ []
 
 -- each number, word or text beside its characters, and these by their codes
 pub record Figures : Type 0 where
@@ -34,9 +43,25 @@ pub record Figures : Type 0 where
   pub appends : appended (text (79 ∷ [])) (75 ∷ 33 ∷ []) ≡ record { bytes = 79 ∷ 75 ∷ 33 ∷ replicate 61 0; length = 3 }
   pub last-place : pushed (text (replicate 63 65)) 66 ≡ record { bytes = replicate 63 65 ++ (66 ∷ []); length = 64 }
   pub no-place : pushed (text (replicate 64 65)) 66 ≡ record { bytes = replicate 64 65; length = 64 }
+  -- OK! over buffers of none to four places: one place too few, just as many, one more
+  pub overs : map (λ n. over (79 ∷ 75 ∷ 33 ∷ []) (replicate n 9)) (0 ∷ 1 ∷ 2 ∷ 3 ∷ 4 ∷ [])
+      ≡ [] ∷ (79 ∷ []) ∷ (79 ∷ 75 ∷ []) ∷ (79 ∷ 75 ∷ 33 ∷ []) ∷ (79 ∷ 75 ∷ 33 ∷ 9 ∷ []) ∷ []
+  -- OK! put into four places: one is left, it fits exactly, one place too few, the last place, the end, beyond the end
+  pub counts : map (λ at. putCount okay at four) (0 ∷ 1 ∷ 2 ∷ 3 ∷ 4 ∷ 5 ∷ []) ≡ 3 ∷ 3 ∷ 2 ∷ 1 ∷ 0 ∷ 0 ∷ []
+  pub puts : map (λ at. paste four at (okay .bytes) (putCount okay at four)) (0 ∷ 1 ∷ 2 ∷ 3 ∷ 4 ∷ 5 ∷ [])
+      ≡ (79 ∷ 75 ∷ 33 ∷ 9 ∷ [])
+      ∷ (6 ∷ 79 ∷ 75 ∷ 33 ∷ [])
+      ∷ (6 ∷ 7 ∷ 79 ∷ 75 ∷ [])
+      ∷ (6 ∷ 7 ∷ 8 ∷ 79 ∷ [])
+      ∷ (6 ∷ 7 ∷ 8 ∷ 9 ∷ [])
+      ∷ (6 ∷ 7 ∷ 8 ∷ 9 ∷ [])
+      ∷ []
+  -- 64 characters at the most, whatever length a text is said to have
+  pub most : map (λ n. putCount (record { bytes = replicate 64 65; length = n }) 1 (replicate 70 0)) (0 ∷ 63 ∷ 64 ∷ 65 ∷ 255 ∷ [])
+      ≡ 0 ∷ 63 ∷ 64 ∷ 64 ∷ 64 ∷ []
 
 pub figures : Figures
-unfolding decimalOf hexOf parametersOf text pushed appended
+unfolding decimalOf hexOf parametersOf text pushed appended putCount
 figures =
     record {
       characters = refl;
@@ -51,6 +76,10 @@ figures =
       appends = refl;
       last-place = refl;
       no-place = refl;
+      overs = refl;
+      counts = refl;
+      puts = refl;
+      most = refl;
     }
 
 -- the number that decimal digits say, after those that say v

@@ -35,9 +35,9 @@ fitting xs k e =
     ap₂ textWith b (min-eq-left h)
 
 -- characters past the room leave no trace
-over : (xs ys : List ℕ) → room ≤ length xs → text (xs ++ ys) ≡ text xs
+past-room : (xs ys : List ℕ) → room ≤ length xs → text (xs ++ ys) ≡ text xs
 unfolding text textWith
-over xs ys h =
+past-room xs ys h =
     let l : room ≤ length (xs ++ ys) = omega (arith, length-append xs ys) in
     let b : take room (xs ++ ys ++ replicate room 0) ≡ take room (xs ++ replicate room 0) =
     take-append-le room (xs ++ ys) (replicate room 0) l ∙ take-append-le room xs ys h ∙ sym (take-append-le room xs (replicate room 0) h) in
@@ -70,7 +70,7 @@ pushed-text xs c = by (ltb (length xs) room) refl
         ∙ sym (fitting (xs ++ (c ∷ [])) k el)
     by false e =
         let h : room ≤ length xs = ltb-false (length xs) room e in
-        full xs c h ∙ sym (over xs (c ∷ []) h)
+        full xs c h ∙ sym (past-room xs (c ∷ []) h)
 
 -- a text that was empty holds the characters appended, the first 64 of them
 pub appended-text : (xs ys : List ℕ) → appended (text xs) ys ≡ text (xs ++ ys)

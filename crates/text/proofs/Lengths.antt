@@ -36,10 +36,6 @@ parameters-length p = refl
 
 -- A text's characters stand in its bytes.
 
-pub text-short : (xs : List ℕ) {t : Text} → t ≡ text xs → t .length ≤ room
-unfolding text
-text-short xs e = subst (λ (t : Text). t .length ≤ room) (sym e) (min-le-right (length xs) room)
-
 bytes-all : (xs : List ℕ) → length (take room (xs ++ replicate room 0)) ≡ room
 bytes-all xs = length-take-le room (xs ++ replicate room 0) (rw (length-append, length-replicate) (omega arith))
 

@@ -1,3 +1,4 @@
 pub mod Text
 pub mod Numerals
 pub mod Ascii
+pub mod Output

@@ -6,6 +6,8 @@ ghost use Prim.Native.Nat.{_<_};
 ghost use Rattle.text.specs.Text.{text, pushed, appended};
 ghost use Rattle.text.specs.Numerals.{digit, placeOf, decimalOf, hexDigit, hexOf, parametersOf};
 
+pub mod output; // output.rt: a text put into a buffer
+
 pub const ROOM: usize = 64;
 
 // A short text, from its start; zeros past it.

@@ -4,8 +4,8 @@ use Rattle.book.proofs.KeptCheck.{kept-ways, count-kept}
 use Rattle.book.proofs.book_ok.Statement.{statement}
 use Rattle.book.proofs.book_ok.Tie as tie
 
-values-no-requires : tie.Need-values-no-requires
-values-no-requires c κs = search needs
+values-fault-requires : tie.Need-values-fault-requires
+values-fault-requires c κs = search needs
 
 returns : tie.Need-returns
 returns c = search kept-ways
@@ -13,8 +13,8 @@ returns c = search kept-ways
 cast-n : tie.Need-cast-n
 cast-n c = search needs
 
-entries-no-requires : tie.Need-entries-no-requires
-entries-no-requires c κs = search count-kept
+entries-fault-requires : tie.Need-entries-fault-requires
+entries-fault-requires c κs = search count-kept
 
 returns-2 : tie.Need-returns-2
 returns-2 c = search kept-ways
@@ -29,10 +29,10 @@ pub book-ok-spec : {M : Type 1} → statement M
 book-ok-spec =
     tie.close
     (tie.spec
-    values-no-requires
+    values-fault-requires
     returns
     cast-n
-    entries-no-requires
+    entries-fault-requires
     returns-2
     is-padded-requires
     returns-3)

@@ -7,7 +7,7 @@ use lib.Dec.{lit<}
 use lib.ListN.{getD, replicate}
 use borrow.Author.Tests.{le-ltb}
 use Rattle.book.specs.Book.{originating, answering, noEntry, paramsOf}
-use Rattle.book.specs.Refusals.{valuesNo, seenIn, entryNo, eachNo, entriesNo}
+use Rattle.book.specs.Refusals.{valuesFault, seenIn, entryFault, eachFault, entriesFault}
 use Rattle.book.specs.Kept.{allNone, isPadded, bookOk}
 use Rattle.protocol.specs.Lengths.{parameterLead}
 use Rattle.protocol.specs.Exchange.{entryOf}
@@ -18,7 +18,7 @@ use Rattle.protocol.specs.PlainPair.{plainBook, plainDrive}
 use Rattle.protocol.proofs.Existence.PairExists.{pair-exists}
 
 plain-accepted : (d role : ℕ) → 1 ≤ d → role < 2 → bookOk (plainBook d role) ≡ true
-unfolding bookOk valuesNo entriesNo eachNo entryNo seenIn isPadded allNone
+unfolding bookOk valuesFault entriesFault eachFault entryFault seenIn isPadded allNone
 plain-accepted d zero h l = rw (le-ltb (5 * d + 420) 425 (omega arith))
 plain-accepted d (suc zero) h l = rw (le-ltb (5 * d + 420) 425 (omega arith))
 plain-accepted d (suc (suc role)) h l = absurd (omega arith)

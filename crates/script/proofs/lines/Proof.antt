@@ -3,7 +3,6 @@ use Prim.Native.Nat.{_-_}
 use native.Mathlib.Omega.{arith}
 use lib.ListN.{length}
 use Rattle.script.proofs.Telling.{Telling, start, whole, next, finish}
-use Rattle.text.proofs.Lengths.{text-short}
 use borrow.Author.Needs.{needs}
 use Rattle.script.proofs.lines.Statement.{statement}
 use Rattle.script.proofs.lines.Tie as tie
@@ -45,10 +44,7 @@ line-requires : tie.Need-line-requires Inv-loop μ-loop
 line-requires c κs = search needs
 
 put-requires : tie.Need-put-requires Inv-loop μ-loop
-put-requires c κs =
-    let slot = c .before .before .before .before in
-    let turn = slot .before .before .before .before .before .before in
-    (text-short _ (c .before .line .ensures), turn .loop .inv .told .inside)
+put-requires c κs = search needs
 
 add-place : tie.Need-add-place Inv-loop μ-loop
 add-place c = search needs

@@ -1,7 +1,7 @@
 -- `script::run` meets its contract. Assumes nothing.
 use borrow.Author.Needs.{needs}
-use Rattle.text.proofs.Lengths.{text-short}
-use Rattle.script.proofs.Saying.{said-alone, fine, inside, slots-fine, refused, accepted, at-fault, said-as, refusal-fits}
+use Rattle.text.proofs.Filling.{said-alone, said-as}
+use Rattle.script.proofs.Saying.{fine, inside, slots-fine, refused, accepted, at-fault, refusal-fits}
 use Rattle.script.proofs.run.Statement.{statement}
 use Rattle.script.proofs.run.Tie as tie
 
@@ -12,7 +12,7 @@ input-refused-requires : tie.Need-input-refused-requires
 input-refused-requires c κs = search needs
 
 put-requires : tie.Need-put-requires
-put-requires c κs = (text-short _ (c .before .input-refused .ensures), search needs)
+put-requires c κs = search needs
 
 same-length : tie.Need-same-length
 same-length c = search needs
@@ -47,7 +47,7 @@ book-refused-requires : tie.Need-book-refused-requires
 book-refused-requires c κs = search needs
 
 put-requires-2 : tie.Need-put-requires-2
-put-requires-2 c κs = (text-short _ (c .before .book-refused .ensures), search needs)
+put-requires-2 c κs = search needs
 
 same-length-2 : tie.Need-same-length-2
 same-length-2 c = search needs

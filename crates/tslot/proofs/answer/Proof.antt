@@ -1,5 +1,5 @@
 -- `tslot::answer` meets its contract: what is said is within the buffer. Assumes nothing.
-use Rattle.script.proofs.Room.{written}
+use Rattle.text.proofs.Filling.{written}
 use borrow.Author.Needs.{needs}
 use Rattle.tslot.proofs.answer.Statement.{statement}
 use Rattle.tslot.proofs.answer.Tie as tie

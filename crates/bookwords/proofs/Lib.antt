@@ -1,0 +1,4 @@
+mod Filled
+pub mod Whole
+pub mod Figures
+pub mod OneReply
