@@ -24,7 +24,7 @@ pub record KeptEntry (mask : ℕ) (e : Entry) : Type 0 where
   pub form : (e .form ≡ 0) ⊎ (e .form ≡ 6) ⊎ (e .form ≡ 7) ⊎ (e .form ≡ 8)
   pub word : e .form ≡ 0 → (5 ≤ e .w) × (e .w ≤ 8)
   pub no-word : (e .form ≡ 0 → ⊥) → e .w ≡ 0
-  pub form-8 : e .form ≡ 8 → mask ≡ 2
+  pub form-8 : e .form ≡ 8 → mask ≡ 1 → ⊥
 
 pub record KeptBook (b : Book) : Type 0 where
   pub role : b .role ≤ 1
@@ -103,7 +103,7 @@ module _ (mask : ℕ) (earlier : List Entry) (start : ℕ) (e : Entry) (h : entr
             let v = rw q at w in
             (leb-true 5 (e .w) (both-left (leb 5 (e .w)) (leb (e .w) 8) v), leb-true (e .w) 8 (both-right (leb 5 (e .w)) (leb (e .w) 8) v));
         no-word = λ (q : e .form ≡ 0 → ⊥). eqb-true (e .w) 0 (rw (ne-eqb (e .form) 0 q) at w);
-        form-8 = λ (q : e .form ≡ 8). eqb-true mask 2 (not-false _ (rw q at (entry-facts .allowed)));
+        form-8 = λ (q : e .form ≡ 8). eqb-false mask 1 (rw q at (entry-facts .allowed));
       }
 
 -- what the check tests

@@ -102,11 +102,15 @@ cases =
     ∷ (one 2 (entry 1 5 8 1), fault 17 16)
     ∷ (several 3 2 (entry 1 5 7 0 ++ entry 2 5 0 9), fault 17 23)
     ∷ (several 3 8 (six ++ entry 7 5 7 0 ++ entry 8 5 7 1), fault 17 65)
-    -- 9, at the form
+    -- 9, at the form: form 8 with mask 1, and with no other
     ∷ (one 1 (entry 1 5 8 0), fault 9 15)
-    ∷ (one 3 (entry 1 5 8 0), fault 9 15)
-    ∷ (several 3 2 (entry 1 5 7 0 ++ entry 2 5 8 0), fault 9 22)
+    ∷ (one 1 (entry 1 5 7 0), fault 0 0)
+    ∷ (one 3 (entry 1 5 8 0), fault 0 0)
+    ∷ (several 1 2 (entry 1 5 7 0 ++ entry 2 5 8 0), fault 9 22)
+    ∷ (several 2 2 (entry 1 5 7 0 ++ entry 2 5 8 0), fault 0 0)
+    ∷ (several 3 2 (entry 1 5 7 0 ++ entry 2 5 8 0), fault 0 0)
     ∷ (several 1 8 (six ++ entry 7 5 7 0 ++ entry 8 5 8 0), fault 9 64)
+    ∷ (several 3 8 (six ++ entry 7 5 7 0 ++ entry 8 5 8 0), fault 0 0)
     -- 10, at the entry: another form does not help; each of the five parameters counts; the last pair counts, and so do the first and the last
     ∷ (several 3 2 (entry 1 5 7 0 ++ entry 1 5 6 0), fault 10 17)
     ∷ (several 3 2 (entry 1 5 7 0 ++ (1 ∷ 9 ∷ 3 ∷ 4 ∷ 5 ∷ 7 ∷ 0 ∷ [])), fault 0 0)
@@ -131,11 +135,12 @@ cases =
     ∷ (one 3 (entry 1 5 5 0 ++ entry 1 5 7 0), fault 11 17)
     -- in one entry 8, 17, 9, 10
     ∷ (several 3 2 (entry 1 5 7 0 ++ entry 1 5 9 5), fault 8 22)
-    ∷ (several 3 2 (entry 1 5 7 0 ++ entry 1 5 8 5), fault 17 23)
-    ∷ (several 3 2 (entry 1 5 7 0 ++ entry 1 5 8 0), fault 9 22)
+    ∷ (several 1 2 (entry 1 5 7 0 ++ entry 1 5 8 5), fault 17 23)
+    ∷ (several 1 2 (entry 1 5 7 0 ++ entry 1 5 8 0), fault 9 22)
+    ∷ (several 3 2 (entry 1 5 7 0 ++ entry 1 5 8 0), fault 10 17)
     -- an earlier entry's 17, 9 or 10 before a later entry's 8
     ∷ (several 3 2 (entry 1 5 7 5 ++ entry 2 5 5 0), fault 17 16)
-    ∷ (several 3 2 (entry 1 5 8 0 ++ entry 2 5 5 0), fault 9 15)
+    ∷ (several 1 2 (entry 1 5 8 0 ++ entry 2 5 5 0), fault 9 15)
     ∷ (several 3 3 (entry 1 5 7 0 ++ entry 1 5 7 0 ++ entry 2 5 5 0), fault 10 17)
     ∷ []
 
@@ -157,7 +162,7 @@ ends =
     ∷ (good ++ (0 ∷ 0 ∷ []), 18)
     ∷ (several 3 2 (entry 1 5 7 0 ++ entry 2 5 5 0), 23)
     ∷ (several 3 2 (entry 1 5 7 0 ++ entry 2 5 0 9), 24)
-    ∷ (several 3 2 (entry 1 5 7 0 ++ entry 2 5 8 0), 24)
+    ∷ (several 1 2 (entry 1 5 7 0 ++ entry 2 5 8 0), 24)
     ∷ (several 3 2 (entry 1 5 7 0 ++ entry 1 5 6 0), 24)
     ∷ []
 
@@ -188,6 +193,8 @@ keptCases =
     (keeps 0 3 500 1 (profile 1 5 7 0 ∷ []), true)
     ∷ (keeps 1 3 425 2 (profile 1 5 0 8 ∷ profile 1 6 6 0 ∷ []), true)
     ∷ (keeps 1 2 65535 8 (seven ++ (profile 8 5 8 0 ∷ [])), true)
+    ∷ (keeps 1 3 500 8 (seven ++ (profile 8 5 8 0 ∷ [])), true)
+    ∷ (keeps 0 3 500 1 (profile 1 5 8 0 ∷ []), true)
     -- the values
     ∷ (keeps 2 3 500 1 (profile 1 5 7 0 ∷ []), false)
     ∷ (keeps 0 0 500 1 (profile 1 5 7 0 ∷ []), false)
@@ -198,7 +205,7 @@ keptCases =
     -- the entries
     ∷ (keeps 1 3 500 2 (profile 1 5 7 0 ∷ profile 2 5 5 0 ∷ []), false)
     ∷ (keeps 1 3 500 2 (profile 1 5 7 0 ∷ profile 2 5 7 8 ∷ []), false)
-    ∷ (keeps 1 3 500 2 (profile 1 5 7 0 ∷ profile 2 5 8 0 ∷ []), false)
+    ∷ (keeps 1 1 500 2 (profile 1 5 7 0 ∷ profile 2 5 8 0 ∷ []), false)
     ∷ (keeps 1 3 500 8 (seven ++ (profile 7 5 7 0 ∷ [])), false)
     -- what stands past them
     ∷ (keeps 1 3 500 1 (profile 1 5 7 0 ∷ profile 2 5 7 0 ∷ []), false)

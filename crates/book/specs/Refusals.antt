@@ -69,16 +69,16 @@ isForm form = eqb form 0 || eqb form 6 || eqb form 7 || eqb form 8
 abbrev pub isWidth : ℕ → ℕ → Bool
 isWidth form w = cond (eqb form 0) (leb 5 w && leb w 8) (eqb w 0)
 
--- form 8 with mask not 2
+-- form 8 with mask 1
 abbrev pub isBarred : ℕ → ℕ → Bool
-isBarred mask form = eqb form 8 && not (eqb mask 2)
+isBarred mask form = eqb form 8 && eqb mask 1
 
 -- some earlier entry has e's five parameters
 unfoldable pub seenIn : List Entry → Entry → Bool
 seenIn [] e = false
 seenIn (x ∷ xs) e = sameParams x e || seenIn xs e
 
--- of the entry e, which starts at that byte. 8: form not 0, 6, 7, 8. 17: w wrong for the form. 9, at the form: form 8 with mask not 2.
+-- of the entry e, which starts at that byte. 8: form not 0, 6, 7, 8. 17: w wrong for the form. 9, at the form: form 8 with mask 1.
 -- 10, at the entry's first byte: five parameters equal to an earlier entry's
 unfoldable pub entryFault : ℕ → List Entry → ℕ → Entry → Fault
 entryFault mask earlier start e =

@@ -74,11 +74,11 @@ fn is_width(form: u8, w: u8) -> bool
     }
 }
 
-// Form 8 with mask not 2.
+// Form 8 with mask 1.
 fn is_barred(mask: u8, form: u8) -> bool
     ensures { λ r. ⌜ r ≡ isBarred mask form ⌝ }
 {
-    (form == 8) & (mask != 2)
+    (form == 8) & (mask == 1)
 }
 
 fn same_params(a: Entry, b: Entry) -> bool

@@ -27,7 +27,7 @@ refusals =
     ∷ (good ++ (10 ∷ []), ascii "refused by number 11 at byte 17: bytes beyond the last entry\n")
     ∷ (one 3 (entry 1 5 5 0), ascii "refused by number 8 at byte 15: the form\n")
     ∷ (one 3 (entry 1 5 0 9), ascii "refused by number 17 at byte 16: the word length\n")
-    ∷ (one 3 (entry 1 5 8 0), ascii "refused by number 9 at byte 15: form 8 under this version mask\n")
+    ∷ (one 1 (entry 1 5 8 0), ascii "refused by number 9 at byte 15: form 8 under this version mask\n")
     ∷ (several 3 2 (entry 1 5 7 0 ++ entry 1 5 6 0), ascii "refused by number 10 at byte 17: the parameters of an earlier entry\n")
     ∷ []
 
@@ -37,6 +37,7 @@ accepted =
     (good, ascii "accepted\noriginating\nversions 1 2\nlimit 500\nentry 0: 0102030405 form 7\n")
     ∷ (header 1 0 1 425 1 ++ entry 1 5 6 0, ascii "accepted\noriginating\nversions 1\nlimit 425\nentry 0: 0102030405 form 6\n")
     ∷ (header 1 1 2 65535 1 ++ entry 0xFE 0xA0 8 0, ascii "accepted\nanswering\nversions 2\nlimit 65535\nentry 0: FE020304A0 form 8\n")
+    ∷ (one 3 (entry 1 5 8 0), ascii "accepted\noriginating\nversions 1 2\nlimit 500\nentry 0: 0102030405 form 8\n")
     ∷ (
       several 3 2 (entry 1 5 7 0 ++ entry 1 6 0 8),
       ascii "accepted\nanswering\nversions 1 2\nlimit 500\nentry 0: 0102030405 form 7\nentry 1: 0102030406 form 0 w 8\n",

@@ -25,14 +25,15 @@ use Rattle.packing.specs.NumbersOfRefusal.{unpackRefusal}
 use Rattle.packing.proofs.Figures.{PackedAsCounted, packed-as-counted, PackingRefused, packing-refused}
 use Rattle.packing.proofs.Figures.{WrittenAsPromised, written-as-promised}
 use Rattle.packing.proofs.Trips.{bits-kept-back}
+use Rattle.book.specs.declared.Entry.{Entry}
 use Rattle.book.specs.declared.Book.{Book}
 use Rattle.book.specs.Written.{entriesBytes, bookBytes}
 use Rattle.book.specs.Reading.{accepts, readBook}
-use Rattle.book.specs.Refusals.{valuesFault, entriesFault}
+use Rattle.book.specs.Refusals.{isMask, valuesFault, entriesFault}
 use Rattle.book.specs.Kept.{isPadded, bookOk}
 use Rattle.book.proofs.Samples.{BookFigures, book-figures}
 use Rattle.book.proofs.RoundTrip.{passes-exactly, written-bytes}
-use Rattle.book.proofs.Base.{in01, eachNo01, entries-as-01, kept-as-01}
+use Rattle.book.proofs.Base.{in01, mask01, eachNo01, entries-as-01, kept-as-01, accepted-still}
 use Rattle.bookwords.proofs.Figures.{BookTold, book-told}
 use Rattle.text.specs.Numerals.{decimalOf}
 use Rattle.text.proofs.Figures.{readFrom, Figures, figures, read-back}
@@ -101,16 +102,26 @@ pub record BookHeld : Type 0 where
   pub figures : BookFigures
   -- the check of a kept book is true exactly of the books that reading yields, and what such a book is written out as is bytes
   pub exactly : (b : Book) → (bookOk b ≡ true) ↔ ((s : List ℕ) × (readBook s ≡ accepts b))
-  -- told as document 01 told them, the numbers are its own, and the check of a kept book passes what it passed there
-  pub numbers : (version : ℕ) (b : Book) → in01 (entriesFault version b .number) ≡ eachNo01 (b .mask) [] (take (b .n) (b .entries))
+  -- told as document 01 told them, the numbers are its own, and the check of a kept book passes what it passed there, but that the entries
+  -- under mask 3 are judged as it judged those under mask 2; and it refuses nothing that passed there
+  pub numbers : (version : ℕ) (b : Book) → isMask (b .mask) ≡ true
+      → in01 (entriesFault version b .number) ≡ eachNo01 (mask01 (b .mask)) [] (take (b .n) (b .entries))
   pub kept : (b : Book) → bookOk b
-      ≡ (eqb (valuesFault b .number) 0 && eqb (eachNo01 (b .mask) [] (take (b .n) (b .entries))) 0 && isPadded (b .entries) (b .n))
+      ≡ (eqb (valuesFault b .number) 0 && eqb (eachNo01 (mask01 (b .mask)) [] (take (b .n) (b .entries))) 0 && isPadded (b .entries) (b .n))
+  pub still : (mask : ℕ) (earlier es : List Entry) → eachNo01 mask earlier es ≡ 0 → eachNo01 (mask01 mask) earlier es ≡ 0
   pub bytes : (b : Book) → bookOk b ≡ true → b .limit < 2 ^ 16 → allBelow 256 (entriesBytes (b .entries)) ≡ true
       → allBelow 256 (bookBytes b) ≡ true
 
 book-held : BookHeld
 book-held =
-    record { figures = book-figures; exactly = passes-exactly; numbers = entries-as-01; kept = kept-as-01; bytes = written-bytes }
+    record {
+      figures = book-figures;
+      exactly = passes-exactly;
+      numbers = entries-as-01;
+      kept = kept-as-01;
+      still = accepted-still;
+      bytes = written-bytes;
+    }
 
 -- Numbers as they are written, lines and scripts.
 pub record TextHeld : Type 0 where

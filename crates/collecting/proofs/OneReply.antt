@@ -8,6 +8,7 @@ use Rattle.collecting.proofs.hearing.has_all.Reads as has-all
 use Rattle.collecting.proofs.kept_book.originates.Reads as originates
 use Rattle.collecting.proofs.kept_book.entry_of.Reads as entry-of
 use Rattle.collecting.proofs.kept_book.identifier.Reads as identifier
+use Rattle.collecting.proofs.kept_book.left_out.Reads as left-out
 use Rattle.collecting.proofs.lengths.run_length.Reads as run-length
 use Rattle.collecting.proofs.lengths.all_parameter_bytes.Reads as all-parameter-bytes
 use Rattle.collecting.proofs.hearing.hear.Reads as hear
@@ -34,6 +35,9 @@ entry-of-one a r s x y p q = one-reply _ p q
 
 pub identifier-one : (a : _) (r s : _) (x y : _) → identifier.Post tt a r x → identifier.Post tt a s y → r ≡ s
 identifier-one a r s x y p q = one-reply _ p q
+
+pub left-out-one : (a : _) (r s : _) (x y : _) → left-out.Post tt a r x → left-out.Post tt a s y → r ≡ s
+left-out-one a r s x y p q = one-reply _ p q
 
 pub run-length-one : (a : _) (r s : _) (x y : _) → run-length.Post tt a r x → run-length.Post tt a s y → r ≡ s
 run-length-one a r s x y p q = one-reply _ p q

@@ -21,7 +21,7 @@ pub(crate) fn settles_none(x: Exchange, y: Exchange) -> bool
     settles(before, after) & (y.version == 0)
 }
 
-// Sgvi until 16 contiguous Sgvi have come, from that slot the mask, then Sdidle; from the slot that completes p4 the parameters.
+// Sgvi until 16 contiguous Sgvi have come, from that slot the identifier, then Sdidle; from the slot that completes p4 the parameters.
 pub(crate) fn chosen_answering(y: Exchange, s: Sending) -> Sending
     ensures { λ r. ⌜ r ≡ chosenAnswering y s ⌝ }
 {

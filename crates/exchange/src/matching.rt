@@ -2,6 +2,7 @@
 use book::Book;
 use book::Entry;
 use collecting::kept_book::entry_of;
+use collecting::kept_book::left_out;
 use protocol::Hearing;
 use protocol::Match;
 ghost use mathlib.Core.Path.{_≡_};
@@ -34,11 +35,11 @@ pub(crate) fn has_params(e: Entry, values: [u8; 5]) -> bool
         & (e.p4 == values[4])
 }
 
-// On a version an entry is matched by its parameters alone.
+// On a version an entry is matched by its parameters, unless it is left out.
 fn matches(version: u8, e: Entry, values: [u8; 5]) -> bool
     ensures { λ r. ⌜ r ≡ matches version e values ⌝ }
 {
-    has_params(e, values)
+    !left_out(version, e) & has_params(e, values)
 }
 
 // The entry at i where it fits, else the one found before it.

@@ -51,7 +51,8 @@ pub(crate) fn compared(b: Book, y: Exchange, opens: Fate) -> Fate
     }
 }
 
-// Sdidle until 16 contiguous Sgvi have come, then Sgvi; from the slot that settles the version, but after at least 16 Sgvi sent, the mask.
+// Sdidle until 16 contiguous Sgvi have come, then Sgvi; from the slot that settles the version, but after at least 16 Sgvi sent, the
+// identifier.
 pub(crate) fn chosen_originating(y: Exchange, s: Sending) -> Sending
     ensures { λ r. ⌜ r ≡ chosenOriginating y s ⌝ }
 {

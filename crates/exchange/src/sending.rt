@@ -21,7 +21,7 @@ fn hails_sent(n: u8) -> u8
     }
 }
 
-// After the mask an originator sends its parameters, an answerer Sdidle.
+// After its identifier an originator sends its parameters, an answerer Sdidle.
 fn after_mask(b: Book, i: u8) -> Sending
     ensures { λ r. ⌜ r ≡ advanced b (Sending.Mask i) ⌝ }
 {

@@ -66,7 +66,7 @@ fn parameter_byte(b: Book, values: [u8; 5], i: u16) -> ChannelByte
     }
 }
 
-// The own mask, or 00 from an originator if no version is shared.
+// The own identifier, or 00 from an originator if no version is shared.
 fn mask_sent(b: Book, version: u8) -> u8
     ensures { λ r. ⌜ r ≡ maskSent b version ⌝ }
 {

@@ -11,14 +11,14 @@
 -- Collects are what the last two use: an originator that sends whatever it hears, and five parameters heard by an end that rests.
 --
 -- The pair. Together: two ends started together meet in slot d. BothConclude: each end, by its books. PairConcludes: the statements.
--- Matching: the entry that has certain parameters. Roles: a book in each role, and what it sends as its identifier.
+-- Roles: a book in each role, and what it sends as its identifier. Profile: the answerer's entry that has the originator's parameters.
 pub mod Segments
 pub mod Core
 pub mod Link
 pub mod Timed
 pub mod FromBytes
-pub mod Matching
 pub mod Roles
+pub mod Profile
 pub mod Hail
 pub mod Meeting
 pub mod Sender

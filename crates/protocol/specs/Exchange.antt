@@ -1,9 +1,10 @@
 -- The exchange, answering and originating, but for the clock. Assumes nothing.
 use mathlib.Core.Bool.{Bool, true, false, cond, not, _&&_}
 use mathlib.Core.List.{List}
-use Prim.Native.Nat.{ℕ, zero, suc, _+_, min}
+use Prim.Native.Nat.{ℕ, zero, suc, _+_, _*_, min}
 use lib.Dec.{eqb, ltb, leb}
 use lib.ListN.{getD, drop, replicate}
+use Rattle.ground.specs.Digits.{bit}
 use Rattle.book.specs.declared.Entry.{Entry}
 use Rattle.book.specs.declared.Book.{Book}
 use Rattle.book.specs.Book.{originating, noEntry, paramsOf}
@@ -29,9 +30,18 @@ originates b = eqb (b .role) originating
 abbrev pub entryOf : Book → ℕ → Entry
 entryOf b i = getD (b .entries) i noEntry
 
--- what an end sends as its identifier, and settles the version with
+-- an originator whose entry has form 8
+abbrev pub callsOnForm8 : Book → Bool
+callsOnForm8 b = originates b && eqb (entryOf b 0 .form) 8
+
+-- bit 1 of a mask alone
+abbrev pub bit1Alone : ℕ → ℕ
+bit1Alone mask = 2 * bit 1 mask
+
+-- what an end sends as its identifier, and settles the version with: its mask; of an originator whose entry has form 8, bit 1 of its mask
+-- alone
 unfoldable pub identifier : Book → ℕ
-identifier b = b .mask
+identifier b = cond (callsOnForm8 b) (bit1Alone (b .mask)) (b .mask)
 
 -- nothing has come yet; an answerer sends Sgvi, an originator Sdidle
 unfoldable pub firstExchange : Book → Exchange
@@ -55,9 +65,13 @@ hasParams e values =
     && eqb (e .p3) (getD values 3 0)
     && eqb (e .p4) (getD values 4 0)
 
--- on a version an entry is matched by its parameters alone
+-- on version 1 a form 8 entry is left out
+abbrev pub leftOut : ℕ → Entry → Bool
+leftOut version e = eqb version 1 && eqb (e .form) 8
+
+-- on a version an entry is matched by its parameters, unless it is left out
 abbrev pub matches : ℕ → Entry → List ℕ → Bool
-matches version e values = hasParams e values
+matches version e values = not (leftOut version e) && hasParams e values
 
 -- the entry that is matched among the first n
 unfoldable pub matchIn : ℕ → List Entry → List ℕ → ℕ → Match
@@ -106,7 +120,7 @@ fateHeard b x y =
 -- The byte to send is chosen.
 
 -- Originating: Sdidle until 16 contiguous Sgvi have come, then Sgvi; from the slot that settles the version, but after at least 16 Sgvi
--- sent, the mask
+-- sent, the identifier
 unfoldable pub chosenOriginating : Exchange → Sending → Sending
 chosenOriginating y Idle = cond (awaitsHail (y .hearing .awaited)) Idle (Hail 0)
 chosenOriginating y (Hail n) = cond (hasIdentifier (y .hearing .awaited) && leb identifierRun n) (Mask 0) (Hail n)
@@ -114,7 +128,8 @@ chosenOriginating y (Mask i) = Mask i
 chosenOriginating y (Parameters i) = Parameters i
 chosenOriginating y Done = Done
 
--- Answering: Sgvi until 16 contiguous Sgvi have come, from that slot the mask, then Sdidle; from the slot that completes p4 the parameters
+-- Answering: Sgvi until 16 contiguous Sgvi have come, from that slot the identifier, then Sdidle; from the slot that completes p4 the
+-- parameters
 unfoldable pub chosenAnswering : Exchange → Sending → Sending
 chosenAnswering y Idle = cond (hasAll (y .hearing .awaited)) (Parameters 0) Idle
 chosenAnswering y (Hail n) = cond (awaitsHail (y .hearing .awaited)) (Hail n) (Mask 0)
@@ -125,7 +140,7 @@ chosenAnswering y Done = Done
 abbrev pub chosen : Book → Exchange → Sending
 chosen b y = cond (originates b) (chosenOriginating y (y .sending)) (chosenAnswering y (y .sending))
 
--- the own mask, or 00 from an originator if no version is shared
+-- the own identifier, or 00 from an originator if no version is shared
 abbrev pub maskSent : Book → ℕ → ℕ
 maskSent b version = cond (originates b && eqb version 0) 0 (identifier b)
 
@@ -145,7 +160,7 @@ sentAs b y (Mask i) = Part i (maskSent b (y .version))
 sentAs b y (Parameters i) = parameterSent b (valuesSent b (y .version) (y .hearing)) i
 sentAs b y Done = Alone sdidle
 
--- what is to be sent after that byte; after the mask an originator sends its parameters, an answerer Sdidle
+-- what is to be sent after that byte; after its identifier an originator sends its parameters, an answerer Sdidle
 unfoldable pub advanced : Book → Sending → Sending
 advanced b Idle = Idle
 advanced b (Hail n) = Hail (min (n + 1) identifierRun)

@@ -49,7 +49,7 @@ pub record JoinedPair (d : ℕ) (bo ba : Book) (go ga : ℕ → Drive) (ho ha : 
   pub toO : Arrives d (sentAt (started ba) ha ga) ho
   pub toA : Arrives d (sentAt (started bo) ho go) ha
 
--- the highest version that both share, 0 for none
+-- the highest version that both share by their identifiers, 0 for none
 abbrev pub sharedVersion : Book → Book → ℕ
 sharedVersion bo ba = highest (identifier bo) (identifier ba)
 

@@ -10,7 +10,7 @@ use Rattle.book.specs.Kept.{bookOk}
 use Rattle.channel.specs.Forms.{wordFits}
 use Rattle.protocol.specs.Lengths.{identifierRun, groupLength, runLength, allParameterBytes}
 use Rattle.protocol.specs.Collecting.{itemOf, awaitsHail, hasIdentifier, hasAll}
-use Rattle.protocol.specs.Exchange.{originates, entryOf, identifier}
+use Rattle.protocol.specs.Exchange.{originates, entryOf, identifier, leftOut}
 use Rattle.protocol.specs.Opened.{shapeOf, isWord, hasPair, openingSd, openingBytes}
 use Rattle.protocol.specs.declared.Awaited.{Awaited}
 use Rattle.protocol.specs.declared.Awaited.the-variants.{Run, Group, Nothing}
@@ -74,7 +74,7 @@ originatingIn b a Done = hasIdentifier a && not (hasAll a)
 abbrev pub sendingIn : Book → Awaited → Sending → Bool
 sendingIn b a s = cond (originates b) (originatingIn b a s) (answeringIn b a s)
 
--- a version that the mask can have settled
+-- a version that the identifier can have settled
 unfoldable pub isVersion : Book → ℕ → Bool
 isVersion b version = leb 1 version && leb version 8 && eqb (bit (version - 1) (identifier b)) 1
 
@@ -112,13 +112,13 @@ inboundIn s i = halfIn s (i .half) && leb (i .pair) 2 && (hasPair s || eqb (i .p
 unfoldable pub refusedIn : Book → ℕ → ℕ → Bool
 refusedIn b number slot = ltb slot (b .limit) && (eqb number 21 || eqb number 22 || (eqb number 23 && eqb (slot + 1) (b .limit)))
 
--- an end in the exchange, but for what it has collected; an open end, but for that
+-- an end in the exchange, but for what it has collected; an open end, but for that: no form 8 entry on version 1
 abbrev pub exchangeIn : Book → ℕ → ℕ → Awaited → Sending → Bool
 exchangeIn b slot version a s = ltb slot (b .limit) && awaitedIn b a && sendingIn b a s && versionIn b a s version
 
 abbrev pub openIn : Book → ℕ → ℕ → ℕ → Line → Bool
 openIn b slot version entry line =
-    ltb slot (b .limit) && isVersion b version && ltb entry (b .n)
+    ltb slot (b .limit) && isVersion b version && ltb entry (b .n) && not (leftOut version (entryOf b entry))
     && outboundIn (shapeOf (entryOf b entry) version) (line .outbound)
     && inboundIn (shapeOf (entryOf b entry) version) (line .inbound)
 

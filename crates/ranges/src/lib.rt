@@ -7,6 +7,7 @@ use collecting::hearing::has_identifier;
 use collecting::hearing::item_of;
 use collecting::kept_book::entry_of;
 use collecting::kept_book::identifier;
+use collecting::kept_book::left_out;
 use collecting::kept_book::originates;
 use collecting::lengths::GROUP_LENGTH;
 use collecting::lengths::IDENTIFIER_RUN;
@@ -153,7 +154,7 @@ fn has_version(mask: u8, version: u8) -> bool
     (mask >> (version - 1)) % 2 == 1
 }
 
-// A version that the mask can have settled.
+// A version that the identifier can have settled.
 fn is_version(b: Book, version: u8) -> bool
     ensures { λ r. ⌜ r ≡ isVersion b version ⌝ }
 {
@@ -252,14 +253,16 @@ fn exchange_in(b: Book, slot: u16, version: u8, a: Awaited, s: Sending) -> bool
     (slot < b.limit) & awaited_in(b, a) & sending_in(b, a, s) & version_in(b, a, s, version)
 }
 
-// An open end.
+// An open end: no form 8 entry on version 1.
 fn open_in(b: Book, slot: u16, version: u8, entry: u8, line: Line) -> bool
     ensures { λ r. ⌜ r ≡ openIn b slot version entry line ⌝ }
 {
-    let shape = shape_of(entry_of(b, entry), version);
+    let e = entry_of(b, entry);
+    let shape = shape_of(e, version);
     (slot < b.limit)
         & is_version(b, version)
         & (entry < b.n)
+        & !left_out(version, e)
         & outbound_in(shape, line.outbound)
         & inbound_in(shape, line.inbound)
 }

@@ -20,11 +20,10 @@ use Rattle.protocol.specs.declared.Endpoint.{Endpoint}
 use Rattle.protocol.specs.declared.Drive.{Drive}
 use Rattle.protocol.specs.declared.Reply.the-variants as reply
 use Rattle.protocol.specs.Sent.{byteSent}
-use Rattle.protocol.specs.Exchange.{entryOf, identifier}
-use Rattle.protocol.specs.Opened.{shapeOf}
-use Rattle.protocol.specs.Ranges.{allZero, isVersion, outboundIn, inboundIn, phaseIn, wellFormed}
+use Rattle.protocol.specs.Exchange.{identifier}
+use Rattle.protocol.specs.Ranges.{isVersion, phaseIn, wellFormed}
 use Rattle.protocol.specs.Slot.{Step, stepOf, offerAllowed, outcomeAt, outcomeOf, passes, refuses, slotOf, started, startOf}
-use Rattle.protocol.proofs.Kept.StateKept.{started-kept, slot-kept}
+use Rattle.protocol.proofs.Kept.StateKept.{open-parts, started-kept, slot-kept}
 use Rattle.text.specs.Numerals.{decimalOf}
 use Rattle.text.specs.Output.{over}
 use Rattle.script.specs.Input.{bookIn, slotsIn, scriptFault, driveOf}
@@ -38,25 +37,14 @@ use Rattle.script.proofs.Saying.{refusal-fits, fine}
 -- an end that is well formed has a version of one digit
 module _ (e : Endpoint) where
   outcome-short : (p : Phase) → phaseIn (e .book) (e .nibbles) (e .values) p ≡ true → length (outcomeFields (outcomeAt e p)) ≤ 29
-  unfolding outcomeAt phaseIn isVersion outcomeFields signalsField standsField detailField
+  unfolding outcomeAt isVersion outcomeFields signalsField standsField detailField
   outcome-short (Exchanging slot version a s) ok = omega arith
   outcome-short (Open slot version i line) ok =
       let b = e .book in
-      let shape = shapeOf (entryOf b i) version in
-      let in-time = ltb slot (b .limit) in
-      let has-entry = ltb i (b .n) in
-      let sends = outboundIn shape (line .outbound) in
-      let hears = inboundIn shape (line .inbound) in
-      let v = isVersion b version in
-      let to-version : isVersion b version ≡ true =
-      both-right in-time v
-      (both-left (in-time && v) has-entry
-      (both-left (in-time && v && has-entry) sends
-      (both-left (in-time && v && has-entry && sends) hears
-      (both-left (in-time && v && has-entry && sends && hears) (allZero (e .nibbles)) ok)))) in
+      let shared = open-parts b slot version i line (e .nibbles) (e .values) ok .0 .opens .shared in
       let low : leb version 8 ≡ true =
       both-right (leb 1 version) (leb version 8)
-      (both-left (leb 1 version && leb version 8) (eqb (bit (version - 1) (identifier b)) 1) to-version) in
+      (both-left (leb 1 version && leb version 8) (eqb (bit (version - 1) (identifier b)) 1) shared) in
       let small : version < 10 = omega (arith, leb-true version 8 low) in
       simp (length-append, signals-length, parameters-length, one-digit version small) (omega (arith, decimal-most slot))
   outcome-short (Refused number slot) ok =

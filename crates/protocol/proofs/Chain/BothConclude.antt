@@ -31,6 +31,7 @@ use Rattle.protocol.specs.declared.Match.{Match}
 use Rattle.protocol.specs.declared.Match.the-variants as match
 use Rattle.protocol.specs.declared.Outcome.the-variants.{Exchanging, Refused}
 use Rattle.protocol.specs.declared.Drive.{Drive}
+use Rattle.protocol.proofs.Kept.Matching.{same-self, same-comm, same-entry}
 use Rattle.protocol.proofs.Kept.StateKept.{call-kept}
 use Rattle.protocol.proofs.Kept.BookFacts.{has-entry, identifier-small}
 use Rattle.protocol.proofs.Calls.ConcludedStays.{open-stays, refused-stays}
@@ -42,7 +43,7 @@ use Rattle.protocol.proofs.Chain.Settling as settling
 use Rattle.protocol.proofs.Chain.Concluding as concluding
 use Rattle.protocol.proofs.Chain.Timed.{coreAt, saidAt, end, timed, timed-said, timed-over, timed-hearing, concludes}
 use Rattle.protocol.proofs.Chain.Together.{met}
-use Rattle.protocol.proofs.Chain.Matching.{names, names-none, same-self, same-comm, same-entry}
+use Rattle.protocol.proofs.Chain.Profile.{found-same, found-none}
 
 -- One end, whose core is known to end in a slot.
 module _ (b : Book) (heard : ℕ → ℕ) (given : ℕ → Drive) (kept : (t : ℕ) → wellFormed (end b heard given t) ≡ true) where
@@ -209,7 +210,7 @@ module _ {d : ℕ} (bo ba : Book) {go ga : ℕ → Drive} {ho ha : ℕ → ℕ}
     module _ (i : ℕ) (e : found ≡ match.Entry i) where
       pub profile-is : entryOf (asA ba) i ≡ own
       profile-is =
-          let n = names (common bo ba) (ba .entries) (paramsOf own) (ba .n) i e in
+          let n = found-same d bo ba (p .books) shared i e in
           let f = p .books .forms i (n .0) (n .1) in
           same-entry (entryOf (asA ba) i) own (n .1) (f .0) (f .1)
 
@@ -275,7 +276,7 @@ module _ {d : ℕ} (bo ba : Book) {go ga : ℕ → Drive} {ho ha : ℕ → ℕ}
       bytes-first k = p .books .bytesA 0 k
 
       unequal : hasParams own (first .p0 ∷ first .p1 ∷ first .p2 ∷ first .p3 ∷ first .p4 ∷ []) ≡ false
-      unequal = same-comm own first ∙ names-none (common bo ba) (ba .entries) (paramsOf own) (ba .n) 0 e (has-entry (asA ba) (p .books .bookA))
+      unequal = same-comm own first ∙ found-none d bo ba (p .books) shared 0 e (has-entry (asA ba) (p .books .bookA))
 
       pub refuse-22-o : Concludes slot-o (λ o. o ≡ Refused 22 slot-o) (standsAt (started (asO bo)) ho go)
       refuse-22-o =

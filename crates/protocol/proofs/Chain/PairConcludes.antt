@@ -16,8 +16,9 @@ use Rattle.protocol.specs.Pair.{JoinedPair, ProfileIn, BothOpen, BothRef
 use Rattle.protocol.specs.declared.Match.{Match}
 use Rattle.protocol.specs.declared.Match.the-variants as match
 use Rattle.protocol.specs.declared.Drive.{Drive}
+use Rattle.protocol.proofs.Kept.Matching.{names, names-none}
 use Rattle.protocol.proofs.Chain.Roles.{asO, asA, common, by-roles}
-use Rattle.protocol.proofs.Chain.Matching.{names, names-none}
+use Rattle.protocol.proofs.Chain.Profile.{found-same, found-none}
 use Rattle.protocol.proofs.Chain.BothConclude.{refuse-21-o, refuse-21-a, open-o, open-a, refuse-22-o, refuse-22-a}
 
 -- whether the originator's profile is in the answerer's book is decided by the two books
@@ -58,14 +59,14 @@ module _ (d : ℕ) (go ga : ℕ → Drive) (ho ha : ℕ → ℕ) where
         → Opens (asO bo) (asA ba)
     open-by f (match.Entry i) e = record { o = open-o bo ba p shared i e; a = open-a bo ba p shared i e }
     open-by f match.Nothing e =
-        let z : true ≡ false = sym (f .same) ∙ names-none (common bo ba) (ba .entries) (paramsOf (entryOf bo 0)) (ba .n) (f .entry) e (f .below) in
+        let z : true ≡ false = sym (f .same) ∙ found-none d bo ba (p .books) shared (f .entry) e (f .below) in
         let w : _≡_ {A = ℕ} 0 1 = cc in
         absurd (omega arith)
 
     refuse-by : (ProfileIn (asO bo) (asA ba) → ⊥) → (m : Match) → matchIn (common bo ba) (ba .entries) (paramsOf (entryOf bo 0)) (ba .n) ≡ m
         → Differs (asO bo) (asA ba)
     refuse-by f (match.Entry i) e =
-        let n = names (common bo ba) (ba .entries) (paramsOf (entryOf bo 0)) (ba .n) i e in
+        let n = found-same d bo ba (p .books) shared i e in
         absurd (f (record { entry = i; below = n .0; same = n .1 }))
     refuse-by f match.Nothing e = record { o = refuse-22-o bo ba p shared e; a = refuse-22-a bo ba p shared e }
 

@@ -37,7 +37,7 @@ use Rattle.protocol.specs.declared.Drive.{Drive}
 use Rattle.protocol.proofs.Chain.Roles.{asO, asA, common}
 use Rattle.protocol.proofs.Kept.StateKept.{call-kept}
 use Rattle.protocol.proofs.Kept.BookFacts.{has-entry}
-use Rattle.protocol.proofs.Chain.Matching.{names-none}
+use Rattle.protocol.proofs.Chain.Profile.{found-none}
 use Rattle.protocol.proofs.Chain.BothConclude.{profile-is, open-a, open-o, state-a, state-o, step-o, idled-o, last-exchange-a, last-exchange-o}
 use Rattle.protocol.proofs.Chain.PairConcludes.{pair-by-roles}
 use Rattle.protocol.proofs.Delivery.MirrorKept.{ArrivesOne}
@@ -208,7 +208,7 @@ module _ (d : ℕ) (go ga : ℕ → Drive) (ho ha : ℕ → ℕ) where
       → (m : Match) → matchIn (common bo ba) (ba .entries) (paramsOf (entryOf bo 0)) (ba .n) ≡ m → BothCarry d (asO bo) (asA ba) go ga ho ha
   carry-by bo ba p shared f (match.Entry i) e = record { fromO = from-o bo ba p shared i e; fromA = from-a bo ba p shared i e }
   carry-by bo ba p shared f match.Nothing e =
-      let z : true ≡ false = sym (f .same) ∙ names-none (common bo ba) (ba .entries) (paramsOf (entryOf bo 0)) (ba .n) (f .entry) e (f .below) in
+      let z : true ≡ false = sym (f .same) ∙ found-none d bo ba (p .books) shared (f .entry) e (f .below) in
       let w : _≡_ {A = ℕ} 0 1 = cc in
       absurd (omega arith)
 

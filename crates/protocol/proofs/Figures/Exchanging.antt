@@ -28,8 +28,11 @@ use Rattle.protocol.proofs.Figures.Rows.{profile, bookOf, leads, signal
 abbrev answerer : ℕ → List Entry → Book
 answerer mask es = bookOf 1 mask 500 es
 
+abbrev originatorOf : ℕ → ℕ → Book
+originatorOf form mask = bookOf 0 mask 500 (profile form 0 ∷ [])
+
 abbrev originator : ℕ → Book
-originator mask = bookOf 0 mask 500 (profile 7 0 ∷ [])
+originator mask = originatorOf 7 mask
 
 pub record Starts : Type 0 where
   pub answers : started (answerer 3 (profile 7 0 ∷ [])) ≡ exchanging (answerer 3 (profile 7 0 ∷ [])) 0 0 (Run 0 0) (six []) (six []) (Hail 0)
@@ -74,13 +77,19 @@ values p0 p1 p2 p3 p4 = 3 ∷ p0 ∷ p1 ∷ p2 ∷ p3 ∷ p4 ∷ []
 abbrev theirs : List ℕ
 theirs = values 0xA1 0xB2 0xC3 0xD4 0xE5
 
--- an end on version 2 that has heard all but the last byte of p4, in slot 300
-abbrev lacksOne : Book → List ℕ → Sending → Endpoint
-lacksOne b vs s = exchanging b 300 2 (Group 5 5) (six (0x5 ∷ 0xE ∷ 0x5 ∷ 0xE ∷ 0x5 ∷ [])) (six (take 5 vs)) s
+-- an end on a version that has heard all but the last byte of p4, in slot 300
+abbrev lacksOneOn : ℕ → Book → List ℕ → Sending → Endpoint
+lacksOneOn version b vs s = exchanging b 300 version (Group 5 5) (six (0x5 ∷ 0xE ∷ 0x5 ∷ 0xE ∷ 0x5 ∷ [])) (six (take 5 vs)) s
 
--- an end on version 2 that has heard all, in slot 300
+abbrev lacksOne : Book → List ℕ → Sending → Endpoint
+lacksOne b vs s = lacksOneOn 2 b vs s
+
+-- an end on a version that has heard all, in slot 300
+abbrev hasHeardOn : ℕ → Book → List ℕ → Sending → Endpoint
+hasHeardOn version b vs s = exchanging b 300 version Nothing (six []) vs s
+
 abbrev hasHeard : Book → List ℕ → Sending → Endpoint
-hasHeard b vs s = exchanging b 300 2 Nothing (six []) vs s
+hasHeard b vs s = hasHeardOn 2 b vs s
 
 -- the last byte goes of a parameter whose last byte is this one
 abbrev lastByte : ℕ → Outcome → List Slot
@@ -90,8 +99,11 @@ abbrev zeros : Entry
 zeros = record { p0 = 0; p1 = 0; p2 = 0; p3 = 0; p4 = 0; form = 6; w = 0 }
 
 -- an answerer with these entries that has heard the values sends its last byte
+abbrev concludesOn : ℕ → List Entry → List ℕ → ℕ → Outcome → Row
+concludesOn version es vs byte stands = row (hasHeardOn version (answerer 3 es) vs (Parameters 189)) (lastByte byte stands)
+
 abbrev concludes : List Entry → List ℕ → ℕ → Outcome → Row
-concludes es vs byte stands = row (hasHeard (answerer 3 es) vs (Parameters 189)) (lastByte byte stands)
+concludes es vs byte stands = concludesOn 2 es vs byte stands
 
 abbrev answering : List Row
 answering =
@@ -131,6 +143,22 @@ answering =
     -- 0 is a value like any other
     ∷ concludes (profile 7 0 ∷ []) (values 0 0 0 0 0) 0xED (outcome.Refused 22 300)
     ∷ concludes (profile 7 0 ∷ zeros ∷ []) (values 0 0 0 0 0) 0x0D (opens 2 zeros 300)
+    -- an answerer sends its whole mask as identifier, whatever form its entries have
+    ∷ row (started (answerer 3 (profile 8 0 ∷ [])))
+    (hears (sixteen ++ replicate 6 0x57) (replicate 15 0x57 ++ group 0x35 0x0D ++ (0x43 ∷ [])))
+    -- an answerer on version 1 leaves form 8 entries out when matching: in what it answers
+    ∷ row (lacksOneOn 1 (answerer 3 (other ∷ profile 8 0 ∷ [])) theirs Idle)
+    (hears (0xED ∷ replicate 188 0x43) (take 189 (otherParameters 32)) ++ (passes 0x43 nothing 0x4D (outcome.Refused 22 489) ∷ []))
+    ∷ row (lacksOneOn 2 (answerer 3 (other ∷ profile 8 0 ∷ [])) theirs Idle)
+    (hears (0xED ∷ replicate 188 0x43) (take 189 (parameters 32)) ++ (passes 0x43 nothing 0xED (opens 2 (profile 8 0) 489) ∷ []))
+    -- and in what it opens on: form 8 alone, on version 1 alone, and no other entry of the book
+    ∷ concludesOn 1 (profile 8 0 ∷ []) theirs 0xED (outcome.Refused 22 300)
+    ∷ concludesOn 2 (profile 8 0 ∷ []) theirs 0xED (opens 2 (profile 8 0) 300)
+    ∷ concludesOn 1 (profile 7 0 ∷ []) theirs 0xED (opens 1 (profile 7 0) 300)
+    ∷ concludesOn 1 (profile 6 0 ∷ []) theirs 0xED (opens 1 (profile 6 0) 300)
+    ∷ concludesOn 1 (profile 0 8 ∷ []) theirs 0xED (opens 1 (profile 0 8) 300)
+    ∷ concludesOn 1 (profile 8 0 ∷ other ∷ []) (values 0x0F 0x1E 0x2D 0x3C 0x4B) 0x4D (opens 1 other 300)
+    ∷ concludesOn 2 (profile 8 0 ∷ []) (values 0xA0 0xB2 0xC3 0xD4 0xE5) 0xED (outcome.Refused 22 300)
     ∷ []
 
 answering-holds : defined answering ≡ written answering
@@ -141,10 +169,13 @@ answering-holds = refl
 abbrev completes : List ℕ → Sending → ℕ → Outcome → Row
 completes vs s byte stands = row (lacksOne (originator 3) vs s) (passes 0xED nothing byte stands ∷ [])
 
--- one with this mask that has heard all but the last byte of an identifier below 16, and has sent so many Sgvi
+-- one with this form and mask that has heard all but the last byte of an identifier below 16, and has sent so many Sgvi
+abbrev lacksIdentifierOf : ℕ → ℕ → ℕ → ℕ → Endpoint
+lacksIdentifierOf form mask theirMask n =
+    exchanging (originatorOf form mask) 300 0 (Group 0 5) (six (theirMask ∷ 0 ∷ theirMask ∷ 0 ∷ theirMask ∷ [])) (six []) (Hail n)
+
 abbrev lacksIdentifier : ℕ → ℕ → ℕ → Endpoint
-lacksIdentifier mask theirMask n =
-    exchanging (originator mask) 300 0 (Group 0 5) (six (theirMask ∷ 0 ∷ theirMask ∷ 0 ∷ theirMask ∷ [])) (six []) (Hail n)
+lacksIdentifier mask theirMask n = lacksIdentifierOf 7 mask theirMask n
 
 abbrev originating : List Row
 originating =
@@ -168,6 +199,13 @@ originating =
     ∷ row (lacksIdentifier 1 2 16)
     (hears (0x0D ∷ replicate 4 0x43) (0x05 ∷ 0x0D ∷ 0x05 ∷ 0x0D ∷ 0x05 ∷ [])
     ++ (passes 0x43 nothing 0x0D (outcome.Refused 21 305) ∷ passes 0x57 nothing 0x43 (outcome.Refused 21 305) ∷ []))
+    -- an originator whose entry has form 8 sends bit 1 of its mask alone as identifier
+    ∷ row (lacksIdentifierOf 8 3 3 16) (hears (0x0D ∷ replicate 6 0x43) (group 0x25 0x0D ++ (0x07 ∷ [])))
+    ∷ row (lacksIdentifierOf 8 2 3 16) (hears (0x0D ∷ 0x43 ∷ []) (0x25 ∷ 0x0D ∷ []))
+    ∷ row (lacksIdentifierOf 6 3 3 16) (hears (0x0D ∷ 0x43 ∷ []) (0x35 ∷ 0x0D ∷ []))
+    -- and settles the version with that: with an answerer of mask 1 it shares none
+    ∷ row (lacksIdentifierOf 8 3 1 16)
+    (hears (0x0D ∷ replicate 4 0x43) (0x05 ∷ 0x0D ∷ 0x05 ∷ 0x0D ∷ 0x05 ∷ []) ++ (passes 0x43 nothing 0x0D (outcome.Refused 21 305) ∷ []))
     -- opens if all five are equal, else refuses 22
     ∷ completes theirs Done 0x43 (opens 2 (profile 7 0) 300)
     ∷ completes (values 0xA0 0xB2 0xC3 0xD4 0) Done 0x43 (outcome.Refused 22 300)
@@ -205,14 +243,18 @@ versionOf (phase.Exchanging slot version a s) = version
 versionOf (phase.Open slot version entry line) = version
 versionOf (phase.Refused number slot) = number
 
--- the version that an end of this role and mask settles, or the number that it refuses under, in the slot of the identifier's last byte
-abbrev settled : ℕ → ℕ → ℕ → ℕ
-settled role mask theirMask =
+-- the version that an end of this form, role and mask settles, or the number that it refuses under, in the slot of the identifier's last
+-- byte
+abbrev settledOf : ℕ → ℕ → ℕ → ℕ → ℕ
+settledOf form role mask theirMask =
     let copy : List ℕ = theirMask % 16 ∷ theirMask / 16 ∷ [] in
     versionOf
     (slotOf
-    (exchanging (bookOf role mask 500 (profile 7 0 ∷ [])) 300 0 (Group 0 5) (six (take 5 (copy ++ copy ++ copy))) (six []) (cond (eqb role 0) (Hail 16) Idle))
+    (exchanging (bookOf role mask 500 (profile form 0 ∷ [])) 300 0 (Group 0 5) (six (take 5 (copy ++ copy ++ copy))) (six []) (cond (eqb role 0) (Hail 16) Idle))
     (16 * (theirMask / 16) + 0x0D) nothing .state .phase)
+
+abbrev settled : ℕ → ℕ → ℕ → ℕ
+settled role mask theirMask = settledOf 7 role mask theirMask
 
 -- the own mask, the identifier heard, and the version
 abbrev versions : List (ℕ × ℕ × ℕ)
@@ -232,15 +274,36 @@ versions =
 abbrev unshared : List (ℕ × ℕ)
 unshared = (1, 0x02) ∷ (2, 0x01) ∷ (3, 0x80) ∷ (3, 0x00) ∷ (2, 0xFD) ∷ []
 
+-- the same for form 8, of which an originator settles the version with bit 1 of its mask alone
+abbrev eights : List (ℕ × ℕ × ℕ)
+eights = (2, 0x02, 2) ∷ (2, 0x03, 2) ∷ (3, 0x02, 2) ∷ (3, 0x03, 2) ∷ (3, 0xFE, 2) ∷ []
+
+abbrev eightsUnshared : List (ℕ × ℕ)
+eightsUnshared = (2, 0x01) ∷ (3, 0x01) ∷ (3, 0x81) ∷ (3, 0x80) ∷ (3, 0x00) ∷ []
+
 pub record VersionsSettled : Type 0 where
   pub answering : map (λ (v : ℕ × ℕ × ℕ). settled 1 (v .0) (v .1)) versions ≡ map (λ (v : ℕ × ℕ × ℕ). v .2) versions
   pub originating : map (λ (v : ℕ × ℕ × ℕ). settled 0 (v .0) (v .1)) versions ≡ map (λ (v : ℕ × ℕ × ℕ). v .2) versions
   pub refused : map (λ (v : ℕ × ℕ). settled 1 (v .0) (v .1)) unshared ≡ map (λ (v : ℕ × ℕ). 21) unshared
   pub none : map (λ (v : ℕ × ℕ). settled 0 (v .0) (v .1)) unshared ≡ map (λ (v : ℕ × ℕ). 0) unshared
+  -- form 8
+  pub eights : map (λ (v : ℕ × ℕ × ℕ). settledOf 8 0 (v .0) (v .1)) eights ≡ map (λ (v : ℕ × ℕ × ℕ). v .2) eights
+  pub eightsNone : map (λ (v : ℕ × ℕ). settledOf 8 0 (v .0) (v .1)) eightsUnshared ≡ map (λ (v : ℕ × ℕ). 0) eightsUnshared
+  -- an answerer settles it with its mask
+  pub eightsAnswering : map (settledOf 8 1 3) (0x01 ∷ 0x02 ∷ 0x03 ∷ []) ≡ 1 ∷ 2 ∷ 2 ∷ []
 
 versions-hold : VersionsSettled
 unfolding computing
-versions-hold = record { answering = refl; originating = refl; refused = refl; none = refl }
+versions-hold =
+    record {
+      answering = refl;
+      originating = refl;
+      refused = refl;
+      none = refl;
+      eights = refl;
+      eightsNone = refl;
+      eightsAnswering = refl;
+    }
 
 -- Collecting. An originator that has sent all and awaits the run of p4: with E5 it opens, with another value it refuses 22, and until then it
 -- sends Sdidle.

@@ -147,6 +147,9 @@ books =
     ∷ (kept 0 3 425 0 (replicate 8 noEntry), 13)
     ∷ (kept 1 3 425 2 (profile 7 0 ∷ profile 6 0 ∷ replicate 6 noEntry), 13)
     ∷ (kept 0 3 425 1 (profile 7 8 ∷ replicate 7 noEntry), 13)
+    ∷ (kept 0 3 425 1 (profile 8 0 ∷ replicate 7 noEntry), 0)
+    ∷ (kept 0 2 425 1 (profile 8 0 ∷ replicate 7 noEntry), 0)
+    ∷ (kept 0 1 425 1 (profile 8 0 ∷ replicate 7 noEntry), 13)
     ∷ (kept 0 3 425 1 (profile 7 0 ∷ profile 6 0 ∷ replicate 6 noEntry), 13)
     ∷ []
 
@@ -154,6 +157,10 @@ books =
 
 abbrev inSlot : ℕ → ℕ → Endpoint
 inSlot role slot = exchanging (bookOf role 3 500 (profile 7 0 ∷ [])) slot 2 (Run 1 0) (six []) (six (3 ∷ [])) (Parameters 0)
+
+-- on form 8, in slot 300, having the identifier
+abbrev eights : ℕ → ℕ → ℕ → Sending → Endpoint
+eights role mask version s = exchanging (bookOf role mask 500 (profile 8 0 ∷ [])) 300 version (Run 1 0) (six []) (six (3 ∷ [])) s
 
 -- in slot 300, with these nibbles in hand and values voted
 abbrev originates : ℕ → ℕ → Awaited → List ℕ → List ℕ → Sending → Endpoint
@@ -205,6 +212,14 @@ counts =
     ∷ (answers 1 2 (Run 1 0) [] (3 ∷ []) Idle, 13)
     ∷ (answers 2 1 (Run 1 0) [] (3 ∷ []) Idle, 13)
     ∷ (answers 2 2 (Run 1 0) [] (3 ∷ []) Idle, 0)
+    -- of an originator on form 8 bit 1 alone, which is version 2
+    ∷ (eights 0 3 2 (Mask 1), 0)
+    ∷ (eights 0 3 1 (Mask 1), 13)
+    ∷ (eights 0 2 2 (Mask 1), 0)
+    ∷ (eights 0 3 0 (Mask 1), 0)
+    ∷ (eights 1 3 2 Idle, 0)
+    ∷ (eights 1 3 1 Idle, 0)
+    ∷ (eights 1 3 0 Idle, 13)
     -- also 0 for an originator that has yet to send all of its 00 group
     ∷ (originates 3 0 (Run 1 0) [] (0 ∷ []) (Hail 5), 0)
     ∷ (originates 3 0 (Run 1 0) [] (0 ∷ []) (Mask 5), 0)
@@ -296,6 +311,15 @@ opens =
     ∷ (openSince (bookOf 1 3 500 (profile 7 0 ∷ numbered 1 ∷ [])) 300 2 1 [] (sent 16 Empty 0 0) idleGot, 0)
     ∷ (openSince (bookOn 3 (profile 6 0)) 300 2 1 [] (sent 16 Empty 0 0) idleGot, 13)
     ∷ (openSince (bookOn 3 (profile 6 0)) 300 2 0 (1 ∷ []) (sent 16 Empty 0 0) idleGot, 13)
+    -- no open state has form 8 on version 1, of either role, and in whichever entry
+    ∷ (openSince (bookOn 3 (profile 8 0)) 300 2 0 [] (sent 16 Empty 0 0) idleGot, 0)
+    ∷ (openSince (bookOn 3 (profile 8 0)) 300 1 0 [] (sent 16 Empty 0 0) idleGot, 13)
+    ∷ (openSince (bookOn 3 (profile 7 0)) 300 1 0 [] (sent 16 Empty 0 0) idleGot, 0)
+    ∷ (openSince (bookOf 0 3 500 (profile 8 0 ∷ [])) 300 2 0 [] (sent 16 Empty 0 0) idleGot, 0)
+    ∷ (openSince (bookOf 0 3 500 (profile 8 0 ∷ [])) 300 1 0 [] (sent 16 Empty 0 0) idleGot, 13)
+    ∷ (openSince (bookOf 1 3 500 (numbered 1 ∷ profile 8 0 ∷ [])) 300 1 0 [] (sent 16 Empty 0 0) idleGot, 0)
+    ∷ (openSince (bookOf 1 3 500 (numbered 1 ∷ profile 8 0 ∷ [])) 300 1 1 [] (sent 16 Empty 0 0) idleGot, 13)
+    ∷ (openSince (bookOf 1 3 500 (numbered 1 ∷ profile 8 0 ∷ [])) 300 2 1 [] (sent 16 Empty 0 0) idleGot, 0)
     -- first bytes sent: at most 16, in forms 7 and 8 at most 18
     ∷ (onForm 0 8 (sent 16 Empty 0 0) idleGot, 0)
     ∷ (onForm 0 8 (sent 17 Empty 0 0) idleGot, 13)

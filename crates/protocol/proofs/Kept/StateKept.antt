@@ -1,11 +1,11 @@
 -- Every state that a start or a slot yields is well formed. Assumes nothing.
 use mathlib.Core.Path.{_≡_, refl}
-use mathlib.Core.Bool.{Bool, true, false, cond, _&&_, _||_}
+use mathlib.Core.Bool.{Bool, true, false, cond, not, _&&_, _||_}
 use mathlib.Core.List.{List}
 use Prim.Native.Nat.{ℕ, zero, suc, _+_, _<_}
 use native.Mathlib.Omega.{arith}
 use lib.Dec.{eqb, ltb}
-use borrow.Author.Tests.{lt-ltb, ltb-true, ltb-false, eq-eqb}
+use borrow.Author.Tests.{lt-ltb, ltb-true, ltb-false, eq-eqb, not-true}
 use Rattle.ground.specs.Digits.{allBelow}
 use Rattle.ground.proofs.Test.{by-test, both-left, both-right}
 use Rattle.book.specs.declared.Book.{Book}
@@ -13,7 +13,7 @@ use Rattle.book.specs.Kept.{bookOk}
 use Rattle.channel.specs.Kinds.{kindOf}
 use Rattle.protocol.specs.Lengths.{identifierRun}
 use Rattle.protocol.specs.Collecting.{noNibbles}
-use Rattle.protocol.specs.Exchange.{originates, entryOf, firstExchange, Turn, turn}
+use Rattle.protocol.specs.Exchange.{originates, entryOf, leftOut, firstExchange, Turn, turn}
 use Rattle.protocol.specs.Opened.{shapeOf, freshLine, writing}
 use Rattle.protocol.specs.Ranges.{allZero, awaitedIn, nibblesIn, valuesIn, answeringIn, originatingIn, sendingIn, isVersion, versionIn, outboundIn, inboundIn, refusedIn, phaseIn, wellFormed}
 use Rattle.protocol.specs.Slot.{exchangeOf, started, clocked, stepBy, exchangeStep, openStep, stepAt, stepOf, offerFits, offerAllowed, slotOf}
@@ -33,9 +33,9 @@ use Rattle.protocol.specs.declared.Phase.the-variants.{Exchanging, Open,
 use Rattle.protocol.specs.declared.Endpoint.{Endpoint}
 use Rattle.protocol.specs.declared.Drive.{Drive}
 use Rattle.protocol.specs.declared.SlotAnswer.{SlotAnswer}
-use Rattle.protocol.proofs.Kept.Cases.{both, or-left}
+use Rattle.protocol.proofs.Kept.Cases.{both, negated, or-left}
 use Rattle.protocol.proofs.Kept.BookFacts.{limit-least, has-entry}
-use Rattle.protocol.proofs.Kept.TurnKept.{ExchangeIn, FateIn, turn-kept}
+use Rattle.protocol.proofs.Kept.TurnKept.{ExchangeIn, OpensIn, FateIn, turn-kept}
 use Rattle.protocol.proofs.Kept.WritingKept.{Fits, writing-kept, fresh-outbound, first-outbound}
 use Rattle.protocol.proofs.Kept.ReadingKept.{reading-kept, fresh-inbound}
 
@@ -76,16 +76,61 @@ unfolding phaseIn
 whole b slot x l i =
     both (both (both (both (both l (i .hearing .awaited)) (i .sending)) (i .version)) (i .hearing .nibbles)) (i .hearing .values)
 
--- the ranges of an end that has just opened, and of one that has refused
-opens-in : (b : Book) (slot version i : ℕ) (line : Line) (values : List ℕ)
-    → slot < b .limit → isVersion b version ≡ true → i < b .n
-    → outboundIn (shapeOf (entryOf b i) version) (line .outbound) ≡ true
-    → inboundIn (shapeOf (entryOf b i) version) (line .inbound) ≡ true
-    → phaseIn b noNibbles values (Open slot version i line) ≡ true
-unfolding phaseIn allBelow
-opens-in b slot version i line values l v n o r =
-    both (both (both (both (both (lt-ltb slot (b .limit) l) v) (lt-ltb i (b .n) n)) o) r) refl
+-- An open end: the parts of its range, and these put together.
 
+pub record OpenIn (b : Book) (slot version i : ℕ) (line : Line) : Type 0 where
+  pub in-time : slot < b .limit
+  pub opens : OpensIn b version i
+  pub outbound : outboundIn (shapeOf (entryOf b i) version) (line .outbound) ≡ true
+  pub inbound : inboundIn (shapeOf (entryOf b i) version) (line .inbound) ≡ true
+
+module _ (b : Book) (slot version i : ℕ) (line : Line) (nibbles values : List ℕ) where
+  pub open-parts : phaseIn b nibbles values (Open slot version i line) ≡ true → OpenIn b slot version i line × (allZero nibbles ≡ true)
+  unfolding phaseIn
+  open-parts e =
+      let s = shapeOf (entryOf b i) version in
+      let out = outboundIn s (line .outbound) in
+      let inward = inboundIn s (line .inbound) in
+      let stands = not (leftOut version (entryOf b i)) in
+      let p1 = ltb slot (b .limit) in
+      let p2 = p1 && isVersion b version in
+      let p3 = p2 && ltb i (b .n) in
+      let p4 = p3 && stands in
+      let p5 = p4 && out in
+      let p6 = p5 && inward in
+      let e6 = both-left p6 (allZero nibbles) e in
+      let e5 = both-left p5 inward e6 in
+      let e4 = both-left p4 out e5 in
+      let e3 = both-left p3 stands e4 in
+      let e2 = both-left p2 (ltb i (b .n)) e3 in (
+        record {
+          in-time = ltb-true slot (b .limit) (both-left p1 (isVersion b version) e2);
+          opens =
+              record {
+                shared = both-right p1 (isVersion b version) e2;
+                below = ltb-true i (b .n) (both-right p2 (ltb i (b .n)) e3);
+                stands = not-true _ (both-right p3 stands e4);
+              };
+          outbound = both-right p4 out e5;
+          inbound = both-right p5 inward e6;
+        },
+        both-right p6 (allZero nibbles) e,
+      )
+
+  open-whole : OpenIn b slot version i line → allZero nibbles ≡ true → phaseIn b nibbles values (Open slot version i line) ≡ true
+  unfolding phaseIn
+  open-whole p z =
+      both
+      (both
+      (both
+      (both
+      (both (both (lt-ltb slot (b .limit) (p .in-time)) (p .opens .shared)) (lt-ltb i (b .n) (p .opens .below)))
+      (negated (p .opens .stands)))
+      (p .outbound))
+      (p .inbound))
+      z
+
+-- an end that has refused
 refuses-in : (b : Book) (number slot : ℕ) (values : List ℕ) → slot < b .limit → (eqb number 21 || eqb number 22) ≡ true
     → phaseIn b noNibbles values (Refused number slot) ≡ true
 unfolding phaseIn refusedIn allBelow
@@ -100,18 +145,26 @@ module _ (b : Book) (ok : bookOk b ≡ true) (slot : ℕ) (l : slot < b .limit) 
       let last : slot + 1 ≡ b .limit = omega (arith, ltb-false (slot + 1) (b .limit) t) in
       both ok (both (both (lt-ltb slot (b .limit) l) (eq-eqb (slot + 1) (b .limit) last)) refl))
 
+  -- an end that has just opened
+  fresh : (t : Turn) (n : ℕ) (line : Line) → OpensIn b (t .exchange .version) n
+      → outboundIn (shapeOf (entryOf b n) (t .exchange .version)) (line .outbound) ≡ true
+      → inboundIn (shapeOf (entryOf b n) (t .exchange .version)) (line .inbound) ≡ true
+      → phaseIn b noNibbles (t .exchange .hearing .values) (Open slot (t .exchange .version) n line) ≡ true
+  unfolding allBelow
+  fresh t n line i o r =
+      open-whole b slot (t .exchange .version) n line noNibbles (t .exchange .hearing .values)
+      (record { in-time = l; opens = i; outbound = o; inbound = r }) refl
+
   by-kept : (t : Turn) (g : Drive) (f : Fate) → FateIn b (t .exchange) f → wellFormed (stepBy b slot t g f .state) ≡ true
   unfolding wellFormed
   by-kept t g Stays i = clocked-kept (t .exchange) i
   by-kept t g (OpensHearing n) i =
       let s = shapeOf (entryOf b n) (t .exchange .version) in
-      both ok
-      (opens-in b slot (t .exchange .version) n (record { outbound = writing s (freshLine .outbound) g .outbound; inbound = freshLine .inbound })
-      (t .exchange .hearing .values) l (i .0) (i .1) (first-outbound s g) (fresh-inbound s))
+      let line : Line = record { outbound = writing s (freshLine .outbound) g .outbound; inbound = freshLine .inbound } in
+      both ok (fresh t n line i (first-outbound s g) (fresh-inbound s))
   by-kept t g (OpensSending n) i =
       let s = shapeOf (entryOf b n) (t .exchange .version) in
-      both ok
-      (opens-in b slot (t .exchange .version) n freshLine (t .exchange .hearing .values) l (i .0) (i .1) (fresh-outbound s) (fresh-inbound s))
+      both ok (fresh t n freshLine i (fresh-outbound s) (fresh-inbound s))
   by-kept t g (Refuses n) i = both ok (refuses-in b n slot (t .exchange .hearing .values) l i)
 
   exchange-kept : (x : Exchange) (heard : ℕ) (g : Drive) → ExchangeIn b x → wellFormed (exchangeStep b slot x heard g .state) ≡ true
@@ -120,7 +173,7 @@ module _ (b : Book) (ok : bookOk b ≡ true) (slot : ℕ) (l : slot < b .limit) 
       let t = turn b x (kindOf heard) in
       by-kept t g (t .fate) (turn-kept b (has-entry b ok) heard x i)
 
--- An open end.
+-- A slot of an open end.
 
 fits-allowed : (e : Endpoint) (version i : ℕ) (f : Offer) → offerFits e version i f ≡ true → Fits (shapeOf (entryOf (e .book) i) version) f
 fits-allowed e version i offer.Nothing a = tt
@@ -129,19 +182,20 @@ fits-allowed e version i (offer.Unit u) a = a
 open-kept : (e : Endpoint) (slot version i : ℕ) (line : Line) (heard : ℕ) (g : Drive) → bookOk (e .book) ≡ true
     → phaseIn (e .book) (e .nibbles) (e .values) (Open slot version i line) ≡ true → offerFits e version i (g .offer) ≡ true
     → wellFormed (openStep e slot version i line heard g .state) ≡ true
-unfolding openStep wellFormed phaseIn
+unfolding openStep wellFormed
 open-kept e slot version i line heard g ok p a =
     let b = e .book in
     let s = shapeOf (entryOf b i) version in
-    let p3 = ltb slot (b .limit) && isVersion b version && ltb i (b .n) in
-    let p4 = p3 && outboundIn s (line .outbound) in
-    let p5 = p4 && inboundIn s (line .inbound) in
-    let e5 = both-left p5 (allZero (e .nibbles)) p in
-    let e4 = both-left p4 (inboundIn s (line .inbound)) e5 in
-    let o = writing-kept s (line .outbound) g (both-right p3 (outboundIn s (line .outbound)) e4) (fits-allowed e version i (g .offer) a) in
+    let q = open-parts b slot version i line (e .nibbles) (e .values) p in
     both ok
-    (both (both (both (both-left p3 (outboundIn s (line .outbound)) e4) o) (reading-kept s (line .inbound) heard (both-right p4 (inboundIn s (line .inbound)) e5)))
-    (both-right p5 (allZero (e .nibbles)) p))
+    (open-whole b slot version i _ (e .nibbles) (e .values)
+    (record {
+      in-time = q .0 .in-time;
+      opens = q .0 .opens;
+      outbound = writing-kept s (line .outbound) g (q .0 .outbound) (fits-allowed e version i (g .offer) a);
+      inbound = reading-kept s (line .inbound) heard (q .0 .inbound);
+    })
+    (q .1))
 
 -- A start, a slot, a call.
 

@@ -1,21 +1,17 @@
 -- One slot of the exchange, but for its clock: what is in its ranges stays so, or concludes within them. Assumes nothing.
 use mathlib.Core.Path.{_≡_, refl}
-use mathlib.Core.Bool.{Bool, true, false, _&&_, _||_, true≢false, false≢true}
-use mathlib.Core.List.{List}
-use Prim.Native.Nat.{ℕ, zero, suc, _+_, _<_}
-use native.Mathlib.Omega.{arith}
+use mathlib.Core.Bool.{Bool, true, false, not, _&&_, _||_, true≢false, false≢true}
+use Prim.Native.Nat.{ℕ, _+_, _<_}
 use lib.Dec.{eqb, leb}
 use lib.ListN.{getD}
-use borrow.Author.Tests.{lt-ltb, leb-false, eq-eqb}
+use borrow.Author.Tests.{lt-ltb, leb-false, eq-eqb, not-true}
 use Rattle.ground.proofs.Test.{by-test, both-left, both-right}
-use Rattle.book.specs.declared.Entry.{Entry}
 use Rattle.book.specs.declared.Book.{Book}
-use Rattle.book.specs.Book.{noEntry}
 use Rattle.channel.specs.Kinds.{kindOf}
 use Rattle.channel.specs.Versions.{highest}
 use Rattle.protocol.specs.Lengths.{identifierRun, groupLength}
 use Rattle.protocol.specs.Collecting.{hasIdentifier, hasAll}
-use Rattle.protocol.specs.Exchange.{hasParams, originates, entryOf, identifier, heardParams, matches, matchIn, matched, settles, acted, allSent, fateHeard, chosenOriginating, chosenAnswering, advanced, lastOfMask, lastOfAll, opensOn, fateSent, Turn, sends, turnBy, turn}
+use Rattle.protocol.specs.Exchange.{hasParams, originates, entryOf, identifier, heardParams, leftOut, matched, settles, acted, allSent, fateHeard, chosenOriginating, chosenAnswering, advanced, lastOfMask, lastOfAll, opensOn, fateSent, Turn, sends, turnBy, turn}
 use Rattle.protocol.specs.Ranges.{sendingIn, originatingIn, answeringIn, isVersion, mayLack, versionIn}
 use Rattle.protocol.specs.declared.Awaited.{Awaited}
 use Rattle.protocol.specs.declared.Sending.{Sending}
@@ -29,6 +25,8 @@ use Rattle.protocol.proofs.Kept.Cases.{first-fails}
 use Rattle.protocol.proofs.Kept.AwaitedMoves.{Moved, moves}
 use Rattle.protocol.proofs.Kept.HearingKept.{HearingIn, hear-kept}
 use Rattle.protocol.proofs.Kept.SendingKept.{Answers, Originates, answering-chosen, originating-chosen, answering-advanced, originating-advanced}
+use Rattle.protocol.proofs.Kept.Matching.{names}
+use Rattle.protocol.proofs.Kept.VersionSettled.{own-stands}
 use Rattle.protocol.proofs.Kept.VersionKept.{all-identified, is-shared, sent-on, settles-hail, version-acted}
 
 -- an exchange in its ranges
@@ -37,28 +35,18 @@ pub record ExchangeIn (b : Book) (x : Exchange) : Type 0 where
   pub sending : sendingIn b (x .hearing .awaited) (x .sending) ≡ true
   pub version : versionIn b (x .hearing .awaited) (x .sending) (x .version) ≡ true
 
--- an end that opens has a shared version and an entry of its book; one that the exchange refuses is refused 21 or 22
+-- an end that opens has a shared version and an entry of its book that is not left out on it
+pub record OpensIn (b : Book) (version i : ℕ) : Type 0 where
+  pub shared : isVersion b version ≡ true
+  pub below : i < b .n
+  pub stands : leftOut version (entryOf b i) ≡ false
+
+-- one that the exchange refuses is refused 21 or 22
 abbrev pub FateIn : Book → Exchange → Fate → Type 0
 FateIn b x Stays = ExchangeIn b x
-FateIn b x (OpensHearing i) = (isVersion b (x .version) ≡ true) × (i < b .n)
-FateIn b x (OpensSending i) = (isVersion b (x .version) ≡ true) × (i < b .n)
+FateIn b x (OpensHearing i) = OpensIn b (x .version) i
+FateIn b x (OpensSending i) = OpensIn b (x .version) i
 FateIn b x (Refuses n) = (eqb n 21 || eqb n 22) ≡ true
-
--- a matched entry is one of the first n
-abbrev Below : ℕ → Match → Type 0
-Below n (match.Entry i) = i < n
-Below n match.Nothing = Unit {0}
-
-weaker : (n : ℕ) (m : Match) → Below n m → Below (suc n) m
-weaker n (match.Entry i) l = omega arith
-weaker n match.Nothing l = tt
-
-match-below : (version : ℕ) (entries : List Entry) (values : List ℕ) (n : ℕ) → Below n (matchIn version entries values n)
-unfolding matchIn
-match-below version entries values zero = tt
-match-below version entries values (suc i) =
-    by-test (Below (suc i)) (matches version (getD entries i noEntry) values) (λ t. omega arith)
-    (λ t. weaker i (matchIn version entries values i) (match-below version entries values i))
 
 -- no end lacks a version that is past its mask
 last-shares : (b : Book) (s : Sending) → lastOfAll b s ≡ true → mayLack b s ≡ false
@@ -93,9 +81,17 @@ lack-advanced b (Mask i) e l = rw (lt-ltb (i + 1) groupLength (leb-false groupLe
 lack-advanced b (Parameters i) e l = absurd (false≢true e)
 lack-advanced b Done e l = absurd (false≢true e)
 
-opens-in : (b : Book) (x : Exchange) (m : Match) → isVersion b (x .version) ≡ true → Below (b .n) m → FateIn b x (opensOn m)
-opens-in b x (match.Entry i) v l = (v, l)
-opens-in b x match.Nothing v l = refl
+-- an answerer opens on the entry that is matched
+opens-in : (b : Book) (x : Exchange) (m : Match) → matched b (x .version) (x .hearing) ≡ m → isVersion b (x .version) ≡ true
+    → FateIn b x (opensOn m)
+opens-in b x (match.Entry i) e v =
+    let named = names (x .version) (b .entries) (heardParams (x .hearing)) (b .n) i e in
+    record { shared = v; below = named .0; stands = not-true _ (both-left (not (leftOut (x .version) (entryOf b i))) _ (named .1)) }
+opens-in b x match.Nothing e v = refl
+
+-- an originator opens on its own entry
+own-in : (b : Book) (version : ℕ) → 0 < b .n → originates b ≡ true → isVersion b version ≡ true → OpensIn b version 0
+own-in b version entry o v = record { shared = v; below = entry; stands = own-stands b version o v }
 
 -- an answerer's last byte goes when all has come, and its version is shared
 last-has-all : (b : Book) (a : Awaited) (s : Sending) → lastOfAll b s ≡ true → Answers b a s → hasAll a ≡ true
@@ -127,11 +123,10 @@ module _ (b : Book) (entry : 0 < b .n) (y : Exchange) (h : HearingIn b (y .heari
       (by-test (FateIn b x) (lastOfMask s && eqb (y .version) 0) (λ t. refl)
       (λ t. by-test (FateIn b x) (lastOfAll b s && hasAll a)
       (λ u. by-test (FateIn b x) (hasParams (entryOf b 0) (heardParams (y .hearing)))
-      (λ w. (
-        is-shared b a s (y .version) (all-identified a (both-right (lastOfAll b s) (hasAll a) u))
-            (last-shares b s (both-left (lastOfAll b s) (hasAll a) u)) v,
-        entry,
-      ))
+      (λ w.
+      own-in b (y .version) entry o
+      (is-shared b a s (y .version) (all-identified a (both-right (lastOfAll b s) (hasAll a) u))
+      (last-shares b s (both-left (lastOfAll b s) (hasAll a) u)) v))
       (λ w. refl))
       (λ u.
       record {
@@ -151,9 +146,8 @@ module _ (b : Book) (entry : 0 < b .n) (y : Exchange) (h : HearingIn b (y .heari
       rw o
       (by-test (FateIn b x) (lastOfAll b s)
       (λ t.
-      opens-in b x (matched b (y .version) (y .hearing))
-      (is-shared b a s (y .version) (all-identified a (last-has-all b a s t i)) (last-shares b s t) v)
-      (match-below (y .version) (b .entries) (heardParams (y .hearing)) (b .n)))
+      opens-in b x (matched b (y .version) (y .hearing)) refl
+      (is-shared b a s (y .version) (all-identified a (last-has-all b a s t i)) (last-shares b s t) v))
       (λ t.
       record {
         hearing = h;
@@ -174,11 +168,10 @@ module _ (b : Book) (entry : 0 < b .n) (x y : Exchange) (m : Moved (x .hearing .
       rw o
       (by-test (λ f. TurnIn b (turnBy b y f)) (allSent s && hasAll a)
       (λ t. by-test (λ f. TurnIn b (turnBy b y f)) (hasParams (entryOf b 0) (heardParams (y .hearing)))
-      (λ u. (
-        is-shared b a s (y .version) (all-identified a (both-right (allSent s) (hasAll a) t))
-            (sent-shares b s (both-left (allSent s) (hasAll a) t)) v,
-        entry,
-      ))
+      (λ u.
+      own-in b (y .version) entry o
+      (is-shared b a s (y .version) (all-identified a (both-right (allSent s) (hasAll a) t))
+      (sent-shares b s (both-left (allSent s) (hasAll a) t)) v))
       (λ u. refl))
       (λ t.
       rw o

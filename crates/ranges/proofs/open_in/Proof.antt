@@ -12,6 +12,9 @@ shape-of-requires c κs = search needs
 is-version-requires : tie.Need-is-version-requires
 is-version-requires c κs = search needs
 
+left-out-requires : tie.Need-left-out-requires
+left-out-requires c κs = search needs
+
 outbound-in-requires : tie.Need-outbound-in-requires
 outbound-in-requires c κs = search needs
 
@@ -23,9 +26,10 @@ returns c =
     simp (
       c .inbound-in .ensures,
       c .before .outbound-in .ensures,
-      c .before .before .before .is-version .ensures,
-      c .before .before .before .before .before .shape-of .ensures,
-      c .before .before .before .before .before .before .entry-of .ensures,
+      c .before .before .left-out .ensures,
+      c .before .before .before .before .is-version .ensures,
+      c .before .before .before .before .before .before .shape-of .ensures,
+      c .before .before .before .before .before .before .before .entry-of .ensures,
     )
 
 pub open-in-spec : {M : Type 1} → statement M
@@ -35,6 +39,7 @@ open-in-spec =
     entry-of-requires
     shape-of-requires
     is-version-requires
+    left-out-requires
     outbound-in-requires
     inbound-in-requires
     returns)
