@@ -17,6 +17,7 @@ use Rattle.protocol.proofs.Calls.SlotPasses.{slot-passes, slot-refused, reply-p
 use Rattle.protocol.proofs.Kept.StateKept.{slot-kept, call-kept}
 use Rattle.protocol.proofs.Calls.ConcludedStays.{open-stays, refused-stays, refused-idles, refused-ignores}
 use Rattle.protocol.proofs.Calls.SlotReported.{opened-in, refused-in}
+use Rattle.protocol.proofs.Calls.FormEight.{eight-on-2}
 use Rattle.protocol.proofs.Calls.EachVote.{no-other-value}
 use Rattle.protocol.proofs.Calls.CallDetermined.{call-determined, sent-determined, delivered-determined, taken-determined}
 use Rattle.claims.specs.OneEnd.{AnswersAll, NotPassed, CallHolds}
@@ -62,6 +63,7 @@ module _ (b : Book) (ok : bookOk b ≡ true) (heard : ℕ → ℕ) (given : ℕ 
         notPassed = slot-not-passed;
         openedIn = λ t version slot profile signals. opened-in b ok heard given t;
         refusedIn = λ t number slot. refused-in b ok heard given t;
+        eights = λ t version slot profile signals. eight-on-2 b ok heard given t;
         concluded =
             λ t u later.
             record {

@@ -71,6 +71,11 @@ pub record CallHolds (b : Book) (heard : ℕ → ℕ) (given : ℕ → Drive) : 
       → standsAt (started b) heard given t ≡ Open version profile slot signals
       → LeavesIn (started b) heard given slot
   pub refusedIn : (t number slot : ℕ) → standsAt (started b) heard given t ≡ Refused number slot → LeavesIn (started b) heard given slot
+  -- form 8 is of version 2: an end that stands open on it is on that version
+  pub eights : (t version slot : ℕ) (profile : Entry) (signals : Signals)
+      → standsAt (started b) heard given t ≡ Open version profile slot signals
+      → profile .form ≡ 8
+      → version ≡ 2
   -- what has concluded stays so
   pub concluded : (t u : ℕ) → t ≤ u → StaysConcluded (started b) heard given t u
   -- a value that is voted is the majority of six bytes that came one after the other: no copy of a dropped group counts

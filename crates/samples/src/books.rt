@@ -220,8 +220,15 @@ pub(crate) fn one(limit: u16) -> [u8; 17] {
     ]
 }
 
-// The originator's book, the answerer's and the delay.
-pub(crate) fn pair(mask_o: u8, mask_a: u8, limit: u16, delay: u8) -> [u8; 35] {
+// The originator's book, the answerer's and the delay; each has one entry of this form.
+pub(crate) fn pair(
+    mask_o: u8,
+    form_o: u8,
+    mask_a: u8,
+    form_a: u8,
+    limit: u16,
+    delay: u8,
+) -> [u8; 35] {
     [
         b'T',
         b'L',
@@ -238,7 +245,7 @@ pub(crate) fn pair(mask_o: u8, mask_a: u8, limit: u16, delay: u8) -> [u8; 35] {
         3,
         4,
         5,
-        7,
+        form_o,
         0,
         b'T',
         b'L',
@@ -255,9 +262,58 @@ pub(crate) fn pair(mask_o: u8, mask_a: u8, limit: u16, delay: u8) -> [u8; 35] {
         3,
         4,
         5,
-        7,
+        form_a,
         0,
         delay,
+    ]
+}
+
+// An originator and an answerer of mask 3 with a form 7 entry 0 and a form 8 entry 1, whose parameters the originator has; limits 500,
+// delay 1.
+pub(crate) fn called_on_second(mask_o: u8, form_o: u8) -> [u8; 42] {
+    [
+        b'T',
+        b'L',
+        b'B',
+        0,
+        1,
+        0,
+        mask_o,
+        1,
+        244,
+        1,
+        1,
+        2,
+        3,
+        4,
+        6,
+        form_o,
+        0,
+        b'T',
+        b'L',
+        b'B',
+        0,
+        1,
+        1,
+        3,
+        1,
+        244,
+        2,
+        1,
+        2,
+        3,
+        4,
+        5,
+        7,
+        0,
+        1,
+        2,
+        3,
+        4,
+        6,
+        8,
+        0,
+        1,
     ]
 }
 

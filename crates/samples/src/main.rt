@@ -114,7 +114,7 @@ fn place(s: &[u8]) -> Text {
 }
 
 fn joined(mask_o: u8, mask_a: u8, limit: u16, delay: u8) -> Text {
-    report(&books::pair(mask_o, mask_a, limit, delay))
+    report(&books::pair(mask_o, 7, mask_a, 7, limit, delay))
 }
 
 fn runs() -> bool {
@@ -180,6 +180,48 @@ fn examples() -> bool {
         )
 }
 
+// #102: form 8 on units set for both versions.
+fn eights() -> bool {
+    show_02(
+        b"tjoin, mask 1 and form 8",
+        report(&books::pair(1, 8, 3, 8, 500, 1)),
+        b"O refused by number 9\n",
+    )
+        && show_02(
+            b"tjoin, both masks 3, form 8 in both",
+            report(&books::pair(3, 8, 3, 8, 500, 1)),
+            b"both open on version 2, O in slot 424, A in 423\n",
+        )
+        && show_02(
+            b"tjoin, mask 3 and form 8, to mask 1",
+            report(&books::pair(3, 8, 1, 7, 500, 1)),
+            b"they share no version: O refuses 21 in slot 43, A in 44\n",
+        )
+        && show_02(
+            b"tjoin, mask 3 and form 7, to mask 1",
+            report(&books::pair(3, 7, 1, 7, 500, 1)),
+            b"both open on version 1, O in slot 424, A in 423\n",
+        )
+}
+
+fn left_out() -> bool {
+    show_02(
+        b"tjoin, mask 1, to mask 3 with a form 7 and a form 8 entry, calling on the second",
+        report(&books::called_on_second(1, 7)),
+        b"on version 1 it is left out: O refuses 22 in slot 424, A in 423\n",
+    )
+        && show_02(
+            b"tjoin, mask 3 and form 8, to the same",
+            report(&books::called_on_second(3, 8)),
+            b"both open on version 2, O in slot 424, A in 423\n",
+        )
+        && show_02(
+            b"tjoin, mask 1 and form 7, to mask 3 and form 8, equal parameters",
+            report(&books::pair(1, 7, 3, 8, 500, 1)),
+            b"entry 0 is left out, and its values are answered: O opens, A refuses 22\n",
+        )
+}
+
 fn closed_input() -> bool {
     if !begun(b"a program whose input is closed") {
         return false;
@@ -215,6 +257,8 @@ fn main() {
         && entries()
         && places()
         && examples()
+        && eights()
+        && left_out()
         && closed_input()
         && closed_output();
     if !whole {

@@ -17,7 +17,9 @@ module _ (b : Book) (ok : bookOk b ≡ true) where
   pub has-entry : 0 < b .n
   has-entry = kept b ok .some
 
-  pub identifier-small : identifier b < 256
+  pub identifier-most : identifier b < 4
   unfolding identifier
-  identifier-small =
-      either-way (λ (v : ℕ). v < 256) (callsOnForm8 b) (omega arith) (omega (arith, kept b ok .mask-most))
+  identifier-most = either-way (λ (v : ℕ). v < 4) (callsOnForm8 b) (omega arith) (omega (arith, kept b ok .mask-most))
+
+  pub identifier-small : identifier b < 256
+  identifier-small = omega (arith, identifier-most)

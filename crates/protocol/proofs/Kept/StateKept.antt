@@ -209,7 +209,7 @@ started-kept b ok =
     first-sending true o = rw o
     first-sending false o = rw o
 
-book-in : (e : Endpoint) → wellFormed e ≡ true → bookOk (e .book) ≡ true
+pub book-in : (e : Endpoint) → wellFormed e ≡ true → bookOk (e .book) ≡ true
 unfolding wellFormed
 book-in e w = both-left (bookOk (e .book)) (phaseIn (e .book) (e .nibbles) (e .values) (e .phase)) w
 
