@@ -13,7 +13,7 @@ use text::parameters;
 use text::word;
 ghost use mathlib.Core.Path.{_≡_};
 ghost use mathlib.Core.Bool.{true};
-ghost use Prim.Native.Nat.{_^_, _<_, _≤_, min};
+ghost use Prim.Native.Nat.{_^_, _<_, min};
 ghost use lib.ListN.{length};
 ghost use Rattle.book.specs.Kept.{bookOk};
 ghost use Rattle.text.specs.Output.{over};

@@ -6,10 +6,11 @@ use Prim.Native.Nat.{ℕ}
 use native.Mathlib.Omega.{arith}
 use Rattle.ground.specs.Digits.{val}
 use Rattle.channel.specs.Bytes.{laid, sgvi, sgp, sgr, sgss, sgidle, sgdis, sdidle, signalling, sdByte, dlByte, dhByte}
-use Rattle.channel.specs.Kinds.{kindNumber, nibbleIn, leadsIn, kindFrom, kindOf, saysKind}
-use Rattle.channel.specs.Forms.{fits, unitByte, unitIn, arrivesAs, encoded, decoded, saysEncoded, saysDecoded}
-use Rattle.channel.specs.Forms.{wordFits, encodedWord, wordOf, saysEncodedWord}
-use Rattle.channel.specs.Versions.{highestUpTo, highest, shared, saysShared}
+use Rattle.channel.specs.Kinds.{kindNumber, nibbleIn, leadsIn, kindFrom, kindOf}
+use Rattle.channel.specs.Forms.{fits, unitByte, unitIn, arrivesAs, encoded, decoded}
+use Rattle.channel.specs.Forms.{wordFits, encodedWord, wordOf}
+use Rattle.channel.specs.Versions.{highestUpTo, highest, shared}
+use Rattle.channel.specs.Answers.{saysKind, saysEncoded, saysDecoded, saysEncodedWord, saysShared}
 use Rattle.channel.specs.Vote.{majorities, voted, asSent}
 use Rattle.channel.specs.declared.unit.Form.the-variants.{Six, SevenV1, SevenV2, Eight}
 use Rattle.channel.proofs.ReadBack.{lead}

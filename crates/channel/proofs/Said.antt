@@ -7,11 +7,12 @@ use lib.Dec.{T, eqb, eqb→eq}
 use Rattle.ground.specs.Digits.{val}
 use Rattle.ground.proofs.Test.{and-left, and-right}
 use Rattle.ground.proofs.Each.{each}
-use Rattle.channel.specs.Kinds.{kindNumber, nibbleIn, leadsIn, kindFrom, kindOf, saysKind, kindInNumbers}
-use Rattle.channel.specs.Forms.{fits, encoded, saysEncoded, encodedInNumbers}
-use Rattle.channel.specs.Forms.{wordFits, encodedWord, saysEncodedWord, wordInNumbers}
-use Rattle.channel.specs.Forms.{isData, decoded, saysDecoded, decodedInNumbers}
-use Rattle.channel.specs.Versions.{highest, shared, saysShared, sharedInNumbers}
+use Rattle.channel.specs.Kinds.{kindNumber, nibbleIn, leadsIn, kindFrom, kindOf}
+use Rattle.channel.specs.Forms.{fits, encoded}
+use Rattle.channel.specs.Forms.{wordFits, encodedWord}
+use Rattle.channel.specs.Forms.{isData, decoded}
+use Rattle.channel.specs.Versions.{highest, shared}
+use Rattle.channel.specs.Answers.{saysKind, kindInNumbers, saysEncoded, encodedInNumbers, saysEncodedWord, wordInNumbers, saysDecoded, decodedInNumbers, saysShared, sharedInNumbers}
 use Rattle.channel.specs.declared.unit.Form.{Form}
 use Rattle.channel.specs.declared.unit.Encoded.{Encoded}
 use Rattle.channel.specs.declared.unit.EncodedWord.{EncodedWord}

@@ -71,26 +71,3 @@ encodedWord w v = cond (wordFits w v) (word.Pair (byte (dlByte v)) (byte (dhByte
 
 unfoldable pub wordOf : ℕ → ℕ → ℕ → ℕ
 wordOf w low high = (low % 16 + high % 16 * 16) % 2 ^ w
-
--- the answers in numbers: 0 and the bytes, or refusal 12; the unit, or nothing
-abbrev pub saysEncoded : Encoded → List ℕ
-saysEncoded (encode.Byte b) = 0 ∷ b .0 ∷ []
-saysEncoded encode.OutOfRange = 12 ∷ []
-
-abbrev pub saysEncodedWord : EncodedWord → List ℕ
-saysEncodedWord (word.Pair low high) = 0 ∷ low .0 ∷ high .0 ∷ []
-saysEncodedWord word.OutOfRange = 12 ∷ []
-
-abbrev pub saysDecoded : Decoded → List ℕ
-saysDecoded (Unit u) = u ∷ []
-saysDecoded NoData = []
-
--- what they have to say
-abbrev pub encodedInNumbers : Form → ℕ → List ℕ
-encodedInNumbers f u = cond (fits f u) (0 ∷ unitByte f u ∷ []) (12 ∷ [])
-
-abbrev pub wordInNumbers : ℕ → ℕ → List ℕ
-wordInNumbers w v = cond (wordFits w v) (0 ∷ dlByte v ∷ dhByte v ∷ []) (12 ∷ [])
-
-abbrev pub decodedInNumbers : Form → ℕ → List ℕ
-decodedInNumbers f b = cond (isData f b) (unitIn f b ∷ []) []

@@ -1,6 +1,6 @@
 -- The kind of a received byte during the exchange. Assumes nothing.
 use mathlib.Core.Bool.{Bool, cond, _&&_}
-use mathlib.Core.List.{List, [], _∷_}
+use mathlib.Core.List.{[], _∷_}
 use Prim.Native.Nat.{ℕ, zero, suc, _+_, _-_, _*_, _/_}
 use lib.Dec.{eqb, leb}
 use Rattle.ground.specs.Digits.{val}
@@ -59,24 +59,6 @@ kindFrom n b =
 
 unfoldable pub kindOf : ℕ → Kind
 kindOf b = kindFrom (kindNumber b) b
-
--- a kind in numbers: which it is, as the table numbers them (0 for all the rest), and what it carries; an Sd's bits as sent, s3 first
-abbrev pub saysKind : Kind → List ℕ
-saysKind Sgvi = 4 ∷ []
-saysKind (Sgp k) = (5 + k) ∷ []
-saysKind Sgr = 10 ∷ []
-saysKind (Dl x) = 1 ∷ x ∷ []
-saysKind (Dh x) = 2 ∷ x ∷ []
-saysKind (Sd s bk) = 3 ∷ bitOf (s .s3) ∷ bitOf (s .s2) ∷ bitOf (s .s1) ∷ bitOf (s .s0) ∷ bitOf bk ∷ []
-saysKind Other = 0 ∷ []
-
--- what the kind of a byte has to say
-unfoldable pub kindInNumbers : ℕ → List ℕ
-kindInNumbers b =
-    cond (isDl b) (1 ∷ nibbleIn b ∷ [])
-    (cond (isDh b) (2 ∷ nibbleIn b ∷ [])
-    (cond (isSd b) (3 ∷ B 1 b ∷ B 2 b ∷ B 3 b ∷ B 4 b ∷ B 5 b ∷ [])
-    (cond (leb (kindNumber b) 10) (kindNumber b ∷ []) (0 ∷ []))))
 
 -- how many of the 128 codes, counted without B8, the table gives the number k
 unfoldable pub howMany : ℕ → ℕ → ℕ

@@ -3,3 +3,4 @@ pub mod Kinds
 pub mod Forms
 pub mod Versions
 pub mod Vote
+pub mod Answers

@@ -1,6 +1,5 @@
 -- Both masks are ANDed; the highest set bit wins, bit 0 being version 1. Nothing set: no version, 21. Assumes nothing.
 use mathlib.Core.Bool.{Bool, cond, _&&_}
-use mathlib.Core.List.{List, [], _∷_}
 use Prim.Native.Nat.{ℕ, zero, suc}
 use lib.Dec.{eqb}
 use Rattle.ground.specs.Digits.{bit}
@@ -21,12 +20,3 @@ highest a b = highestUpTo 8 a b
 
 unfoldable pub shared : ℕ → ℕ → Shared
 shared a b = cond (eqb (highest a b) 0) Nothing (Version (highest a b))
-
--- the answer in numbers: 0 and the version, or refusal 21
-abbrev pub saysShared : Shared → List ℕ
-saysShared (Version v) = 0 ∷ v ∷ []
-saysShared Nothing = 21 ∷ []
-
--- what it has to say
-abbrev pub sharedInNumbers : ℕ → ℕ → List ℕ
-sharedInNumbers a b = cond (eqb (highest a b) 0) (21 ∷ []) (0 ∷ highest a b ∷ [])

@@ -3,7 +3,8 @@ use crate::byte::ChannelByte;
 use crate::byte::Leads;
 use crate::kind_table::KINDS;
 ghost use mathlib.Core.Path.{_≡_};
-ghost use Rattle.channel.specs.Kinds.{kindNumber, leadsIn, kindOf, saysKind, kindInNumbers};
+ghost use Rattle.channel.specs.Kinds.{kindNumber, leadsIn, kindOf};
+ghost use Rattle.channel.specs.Answers.{saysKind, kindInNumbers};
 
 // What a received byte is during the exchange. B8 is ignored.
 pub enum Kind {

@@ -5,7 +5,7 @@ ghost use mathlib.Core.Bool.{cond};
 ghost use Prim.Native.Nat.{_<_, _^_};
 ghost use Rattle.channel.specs.Bytes.{byte};
 ghost use Rattle.channel.specs.Forms.{fits, unitByte, encoded, isData, unitIn, decoded, wordFits, encodedWord, wordOf};
-ghost use Rattle.channel.specs.Forms.{saysEncoded, saysEncodedWord, saysDecoded, encodedInNumbers, wordInNumbers, decodedInNumbers};
+ghost use Rattle.channel.specs.Answers.{saysEncoded, saysEncodedWord, saysDecoded, encodedInNumbers, wordInNumbers, decodedInNumbers};
 
 // A form whose unit is one byte: form 6, form 7 on version 1, form 7 on version 2, form 8.
 pub enum Form {

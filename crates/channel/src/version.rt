@@ -3,7 +3,8 @@ ghost use mathlib.Core.Path.{_≡_};
 ghost use mathlib.Core.Bool.{cond};
 ghost use Prim.Native.Nat.{_≤_};
 ghost use lib.Dec.{leb};
-ghost use Rattle.channel.specs.Versions.{shared, highest, saysShared, sharedInNumbers};
+ghost use Rattle.channel.specs.Versions.{shared, highest};
+ghost use Rattle.channel.specs.Answers.{saysShared, sharedInNumbers};
 
 pub enum Shared {
     Version(u8),

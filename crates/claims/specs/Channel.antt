@@ -6,7 +6,7 @@ use Prim.Native.Nat.{ℕ, _/_, _%_, _^_, _<_}
 use Rattle.channel.specs.Bytes.{dlByte, dhByte}
 use Rattle.channel.specs.Kinds.{kindNumber, kindOf}
 use Rattle.channel.specs.Forms.{unitsOf, fits, unitByte, unitIn, isData, encoded, decoded, arrivesAs, wordFits, encodedWord, wordOf}
-use Rattle.channel.specs.Forms.{saysEncoded, saysEncodedWord, saysDecoded}
+use Rattle.channel.specs.Answers.{saysEncoded, saysEncodedWord, saysDecoded}
 use Rattle.channel.specs.declared.kind.Kind.the-variants.{Dl, Dh}
 use Rattle.channel.specs.declared.unit.Form.{Form}
 use Rattle.channel.specs.declared.unit.Decoded.the-variants.{Unit}

@@ -1,9 +1,10 @@
 -- The samples P1 to P12: beside each what the definitions give, in numbers, and what the paper writes. Assumes nothing.
 use mathlib.Core.List.{List, [], _∷_}
 use Prim.Native.Nat.{ℕ}
-use Rattle.channel.specs.Kinds.{kindOf, saysKind}
-use Rattle.channel.specs.Forms.{encoded, encodedWord, saysEncoded, saysEncodedWord}
-use Rattle.channel.specs.Versions.{shared, saysShared}
+use Rattle.channel.specs.Kinds.{kindOf}
+use Rattle.channel.specs.Forms.{encoded, encodedWord}
+use Rattle.channel.specs.Versions.{shared}
+use Rattle.channel.specs.Answers.{saysKind, saysEncoded, saysEncodedWord, saysShared}
 use Rattle.channel.specs.Vote.{voted}
 use Rattle.channel.specs.declared.unit.Form.the-variants.{Six, SevenV1, SevenV2, Eight}
 use Rattle.packing.specs.FormsOfData.{packed}

@@ -12,7 +12,7 @@ use Rattle.book.specs.declared.Entry.{Entry}
 use Rattle.book.specs.declared.Book.{Book}
 use Rattle.book.specs.Kept.{bookOk}
 use Rattle.protocol.specs.Exchange.{entryOf, identifier}
-use Rattle.protocol.specs.Ranges.{isVersion, phaseIn, wellFormed}
+use Rattle.protocol.specs.Ranges.{isVersion, phaseIn}
 use Rattle.protocol.specs.Slot.{started, outcomeAt}
 use Rattle.protocol.specs.Call.{endAt, standsAt}
 use Rattle.protocol.specs.declared.Signals.{Signals}

@@ -2,7 +2,7 @@
 -- matches is the entry that has it, and nothing where none has. Assumes nothing.
 use mathlib.Core.Path.{_≡_, refl, sym, _∙_}
 use mathlib.Core.Logic.{⊎-elim}
-use mathlib.Core.Bool.{Bool, true, false, not, _&&_}
+use mathlib.Core.Bool.{Bool, true, false, not}
 use Prim.Native.Nat.{ℕ, _<_}
 use lib.Dec.{eqb}
 use borrow.Author.Tests.{eqb-false}
@@ -11,7 +11,6 @@ use Rattle.book.specs.declared.Entry.{Entry}
 use Rattle.book.specs.declared.Book.{Book}
 use Rattle.book.specs.Book.{paramsOf, sameParams}
 use Rattle.protocol.specs.Exchange.{entryOf, leftOut, matches, matchIn}
-use Rattle.protocol.specs.Ranges.{isVersion}
 use Rattle.protocol.specs.Pair.{MayJoin}
 use Rattle.protocol.specs.declared.Match.{Match}
 use Rattle.protocol.specs.declared.Match.the-variants as match
