@@ -7,11 +7,11 @@ use Rattle.book.specs.Book.{noEntry, bookWith}
 use Rattle.protocol.specs.Joined.{idle}
 use Rattle.protocol.specs.declared.Drive.{Drive}
 
--- one entry, form 6, its five parameters 0, and the least limit that the delay leaves
+-- one entry, form 8, under mask 3, its five parameters 0, and the least limit that the delay leaves
 abbrev pub plainBook : ℕ → ℕ → Book
 plainBook d role =
     bookWith role 3 (5 * d + 420) 1
-    (record { p0 = 0; p1 = 0; p2 = 0; p3 = 0; p4 = 0; form = 6; w = 0 } ∷ replicate 7 noEntry)
+    (record { p0 = 0; p1 = 0; p2 = 0; p3 = 0; p4 = 0; form = 8; w = 0 } ∷ replicate 7 noEntry)
 
 abbrev pub plainDrive : ℕ → Drive
 plainDrive t = idle
