@@ -1,8 +1,8 @@
 -- The table of kinds: its rule at every entry, and each code read as what it is, whatever B8 is. Assumes nothing.
-use mathlib.Core.Path.{_≡_, refl, sym, _∙_}
+use mathlib.Core.Path.{_≡_, refl, sym, subst, _∙_}
 use mathlib.Core.Bool.{cond}
 use mathlib.Core.List.{List}
-use Prim.Native.Nat.{ℕ, _-_, _/_, _%_, _<_, _≤_}
+use Prim.Native.Nat.{ℕ, _+_, _-_, _*_, _/_, _%_, _<_, _≤_, zero-le}
 use native.Mathlib.Omega.{arith}
 use lib.Dec.{T, eqb, eqb→eq, leb}
 use lib.ListN.{length, getD}
@@ -14,9 +14,33 @@ use Rattle.channel.specs.Kinds.{kindNumber, nibbleIn, leadsIn, kindFrom,
 use Rattle.channel.specs.declared.byte.Leads.{Leads}
 use Rattle.channel.specs.declared.kind.Kind.the-variants.{Sgvi, Sgp, Sgr, Dl, Dh, Sd, Other}
 
--- a table whose every entry is the number by the rules, which is one computed test, gives the number of each byte
-pub table-rule : (kinds : List ℕ) → T (every (λ b n. eqb n (kindNumber b)) 0 kinds) → (b : ℕ) → b < length kinds → getD kinds b 0 ≡ kindNumber b
-table-rule kinds t b h = eqb→eq (getD kinds b 0) (kindNumber b) (at (λ b n. eqb n (kindNumber b)) kinds t b h)
+-- a row of the table whose every entry is the number by the rules, which is one computed test, gives the number of each byte of that row
+pub row-rule : (row : List ℕ) (k high low : ℕ) → high ≡ k → T (every (λ low n. eqb n (kindNumber (16 * k + low))) 0 row)
+    → low < length row → getD row low 0 ≡ kindNumber (16 * high + low)
+row-rule row k high low e t h =
+    rw e (eqb→eq (getD row low 0) (kindNumber (16 * k + low)) (at (λ low n. eqb n (kindNumber (16 * k + low))) row t low h))
+
+-- a number below 16 that is none of those before 15 is 15
+past : (k h : ℕ) → k ≤ h → (h ≡ k → ⊥) → k + 1 ≤ h
+past k h l n = omega arith
+
+fifteen : (h : ℕ) → h < 16 → 15 ≤ h → h ≡ 15
+fifteen h l g = omega arith
+
+pub last-row : (h : ℕ) → h < 16
+    → (h ≡ 0 → ⊥) → (h ≡ 1 → ⊥) → (h ≡ 2 → ⊥) → (h ≡ 3 → ⊥) → (h ≡ 4 → ⊥)
+    → (h ≡ 5 → ⊥) → (h ≡ 6 → ⊥) → (h ≡ 7 → ⊥) → (h ≡ 8 → ⊥) → (h ≡ 9 → ⊥)
+    → (h ≡ 10 → ⊥) → (h ≡ 11 → ⊥) → (h ≡ 12 → ⊥) → (h ≡ 13 → ⊥) → (h ≡ 14 → ⊥) → h ≡ 15
+last-row h l n0 n1 n2 n3 n4 n5 n6 n7 n8 n9 n10 n11 n12 n13 n14 =
+    let five : 5 ≤ h = past 4 h (past 3 h (past 2 h (past 1 h (past 0 h zero-le n0) n1) n2) n3) n4 in
+    let ten : 10 ≤ h = past 9 h (past 8 h (past 7 h (past 6 h (past 5 h five n5) n6) n7) n8) n9 in
+    fifteen h l (past 14 h (past 13 h (past 12 h (past 11 h (past 10 h ten n10) n11) n12) n13) n14)
+
+-- the byte's own entry
+pub row-entry : (b : ℕ) (row : List ℕ) → ((low : ℕ) → low < 16 → getD row low 0 ≡ kindNumber (16 * (b / 16) + low))
+    → getD row (b % 16) 0 ≡ kindNumber b
+row-entry b row h =
+    let whole : 16 * (b / 16) + b % 16 ≡ b = omega arith in subst (λ x. getD row (b % 16) 0 ≡ kindNumber x) whole (h (b % 16) (omega arith))
 
 pub nibble-is : (b : ℕ) → b < 256 → b / 16 ≡ nibbleIn b
 unfolding nibbleIn val

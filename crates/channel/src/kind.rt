@@ -1,7 +1,7 @@
 // The kind of a received byte during the exchange.
 use crate::byte::ChannelByte;
 use crate::byte::Leads;
-use crate::kind_table::KINDS;
+use crate::kind_table::row;
 ghost use mathlib.Core.Path.{_≡_};
 ghost use Rattle.channel.specs.Kinds.{kindNumber, leadsIn, kindOf};
 ghost use Rattle.channel.specs.Answers.{saysKind, kindInNumbers};
@@ -24,7 +24,8 @@ pub enum Kind {
 fn kind_number(b: u8) -> u8
     ensures { λ r. ⌜ r ≡ kindNumber b ⌝ }
 {
-    KINDS[b as usize]
+    let row = row(b / 16);
+    row[(b % 16) as usize]
 }
 
 // The leads that an Sd byte carries.

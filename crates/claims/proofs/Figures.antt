@@ -5,19 +5,22 @@ use mathlib.Core.Bool.{true, false, _&&_}
 use mathlib.Core.List.{List, [], _++_}
 use mathlib.Core.Logic.{_↔_}
 use Prim.Native.Nat.{ℕ, _*_, _-_, _^_, _<_, _≤_}
+use lib.Bits.{bitAnd, bitOr}
 use lib.Dec.{eqb}
 use lib.ListN.{length, take, replicate}
-use Rattle.ground.specs.Digits.{allBelow}
+use Rattle.ground.specs.Digits.{allBelow, bit}
 use Rattle.ground.specs.Lists.{isAmong}
 use Rattle.ground.proofs.Figures.{AmongAsListed, among-as-listed}
 use Rattle.channel.specs.Bytes.{signalling, sgvi, sgr, sdidle, sdByte}
 use Rattle.channel.specs.Kinds.{kindNumber, kindOf, howMany}
 use Rattle.channel.specs.Forms.{unitByte, sameBothWays}
+use Rattle.channel.specs.Vote.{majority, voted}
 use Rattle.channel.specs.declared.kind.Kind.the-variants.{Sgvi, Sgr}
 use Rattle.channel.specs.declared.unit.Form.the-variants.{SevenV1, SevenV2}
 use Rattle.channel.proofs.Figures.{BytesAsListed, bytes-as-listed, KindsAsRead, kinds-as-read, UnitsAsLaid, units-as-laid}
 use Rattle.channel.proofs.Figures.{WordsAsLaid, words-as-laid, VersionsAsChosen, versions-as-chosen, VotesAsCounted, votes-as-counted}
 use Rattle.channel.proofs.KindTable.{kinds-counted, others-counted}
+use Rattle.channel.proofs.Majority.{vote-just, whole-bytes}
 use Rattle.channel.proofs.ReadBack.{signalling-read, sgvi-read, sgr-read, sdidle-is}
 use Rattle.channel.proofs.RoundTrip.{versions-agree}
 use Rattle.packing.specs.FormsOfData.{bitsOf, octetsIn, unpacked}
@@ -56,6 +59,10 @@ pub record ChannelHeld : Type 0 where
   pub words : WordsAsLaid
   pub versions : VersionsAsChosen
   pub votes : VotesAsCounted
+  -- the vote over whole bytes is the vote bit by bit: a byte is the vote just where each of its bits is the majority of the copies' bits, and
+  -- AND and OR of the copies give it
+  pub vote-is : (a b c r : ℕ) → r < 256 → (r ≡ voted a b c) ↔ ((i : ℕ) → i < 8 → bit i r ≡ majority (bit i a) (bit i b) (bit i c))
+  pub over-bytes : (a b c : ℕ) → a < 256 → b < 256 → c < 256 → bitOr (bitOr (bitAnd a b) (bitAnd a c)) (bitAnd b c) ≡ voted a b c
   -- 16 DL, 16 DH and 32 Sd codes, 54 unassigned, and one of each of the 10 others
   pub counted : (howMany 1 128 ≡ 16) × (howMany 2 128 ≡ 16) × (howMany 3 128 ≡ 32) × (howMany 0 128 ≡ 54)
   pub others : (k : ℕ) → k < 14 → 4 ≤ k → howMany k 128 ≡ 1
@@ -77,6 +84,8 @@ channel-held =
       words = words-as-laid;
       versions = versions-as-chosen;
       votes = votes-as-counted;
+      vote-is = vote-just;
+      over-bytes = whole-bytes;
       counted = kinds-counted;
       others = others-counted;
       codes = signalling-read;

@@ -10,6 +10,7 @@ use opened::line::fresh_line;
 use opened::reading::reading;
 use opened::shape::has_unit;
 use opened::shape::shape_of;
+use opened::writing::first_written;
 use opened::writing::writing;
 use protocol::Awaited;
 use protocol::Delivered;
@@ -28,17 +29,51 @@ use protocol::SlotAnswer;
 use ranges::phase_in;
 ghost use mathlib.Core.Path.{_≡_};
 ghost use Rattle.protocol.specs.Ranges.{wellFormed};
-ghost use Rattle.protocol.specs.Slot.{exchangeOf, exchanging, concluded, started, clocked, opens, opensHearing, exchangeStep, openAt, openStep, stepOf, offerFits, offerAllowed, outcomeAt, outcomeOf, refuses, slotOf};
+ghost use Rattle.protocol.specs.Slot.{exchangeOf, started, clocked, opensHearing, exchangeStep, openAt, openStep, stepOf, offerFits, offerAllowed, outcomeAt, outcomeOf, refuses, slotOf};
 ghost use Rattle.protocol.specs.Answers.{saysOutcome, standsIn, saysReply, slotSays};
 ghost use Rattle.protocol.specs.declared.Phase.the-variants.{Open};
-ghost use Rattle.endpoint.specs.StepMade.{stepMade, quietStep, passedBy};
+ghost use Rattle.endpoint.specs.StepMade.{restOf, withBook, exchangingRest, concludedRest, stepMade, quietStep, passedBy};
 
-// What a slot brings: the state, the byte sent, what is delivered, and whether the offered unit is taken.
+// An end but for its book, which no slot changes, and which is therefore not carried through a slot.
+pub(crate) struct Rest {
+    pub(crate) nibbles: [u8; 6],
+    pub(crate) values: [u8; 6],
+    pub(crate) phase: Phase,
+}
+
+// What a slot brings: the end but for its book, the byte sent, what is delivered, and whether the offered unit is taken.
 pub(crate) struct StepMade {
-    pub(crate) state: Endpoint,
+    pub(crate) rest: Rest,
     pub(crate) sent: ChannelByte,
     pub(crate) delivered: Delivered,
     pub(crate) taken: bool,
+}
+
+fn rest_of(e: Endpoint) -> Rest
+    ensures { λ r. ⌜ r ≡ restOf e ⌝ }
+{
+    let nibbles = e.nibbles;
+    let values = e.values;
+    let phase = e.phase;
+    Rest {
+        nibbles,
+        values,
+        phase,
+    }
+}
+
+fn with_book(b: Book, rest: Rest) -> Endpoint
+    ensures { λ r. ⌜ r ≡ withBook b rest ⌝ }
+{
+    let nibbles = rest.nibbles;
+    let values = rest.values;
+    let phase = rest.phase;
+    Endpoint {
+        book: b,
+        nibbles,
+        values,
+        phase,
+    }
 }
 
 // An end in the exchange, with its state but for the clock.
@@ -59,8 +94,8 @@ fn exchange_of(e: Endpoint, version: u8, awaited: Awaited, sending: Sending) -> 
     }
 }
 
-fn exchanging(b: Book, slot: u16, x: Exchange) -> Endpoint
-    ensures { λ r. ⌜ r ≡ exchanging b slot x ⌝ }
+fn exchanging(slot: u16, x: Exchange) -> Rest
+    ensures { λ r. ⌜ r ≡ exchangingRest slot x ⌝ }
 {
     let hearing = x.hearing;
     let awaited = hearing.awaited;
@@ -73,8 +108,7 @@ fn exchanging(b: Book, slot: u16, x: Exchange) -> Endpoint
         awaited,
         sending,
     };
-    Endpoint {
-        book: b,
+    Rest {
         nibbles,
         values,
         phase,
@@ -82,14 +116,13 @@ fn exchanging(b: Book, slot: u16, x: Exchange) -> Endpoint
 }
 
 // An end that has concluded keeps the values that were voted.
-fn concluded(b: Book, x: Exchange, phase: Phase) -> Endpoint
-    ensures { λ r. ⌜ r ≡ concluded b x phase ⌝ }
+fn concluded(x: Exchange, phase: Phase) -> Rest
+    ensures { λ r. ⌜ r ≡ concludedRest x phase ⌝ }
 {
     let hearing = x.hearing;
     let nibbles = NO_NIBBLES;
     let values = hearing.values;
-    Endpoint {
-        book: b,
+    Rest {
         nibbles,
         values,
         phase,
@@ -100,21 +133,21 @@ fn concluded(b: Book, x: Exchange, phase: Phase) -> Endpoint
 pub(crate) fn started(b: Book) -> Endpoint
     ensures { λ r. ⌜ r ≡ started b ⌝ }
 {
-    exchanging(b, 0, first_exchange(b))
+    with_book(b, exchanging(0, first_exchange(b)))
 }
 
 // An end neither open nor refused after acting and sending in slot L-1 refuses 23.
-fn clocked(b: Book, slot: u16, x: Exchange) -> Endpoint
-    ensures { λ r. ⌜ r ≡ clocked b slot x ⌝ }
+fn clocked(b: Book, slot: u16, x: Exchange) -> Rest
+    ensures { λ r. ⌜ r ≡ restOf (clocked b slot x) ⌝ }
 {
     if slot as u32 + 1 < b.limit as u32 {
-        return exchanging(b, slot + 1, x);
+        return exchanging(slot + 1, x);
     }
-    concluded(b, x, Phase::Refused { number: 23, slot })
+    concluded(x, Phase::Refused { number: 23, slot })
 }
 
-fn opens(b: Book, slot: u16, x: Exchange, entry: u8, line: Line) -> Endpoint
-    ensures { λ r. ⌜ r ≡ opens b slot x entry line ⌝ }
+fn opens(slot: u16, x: Exchange, entry: u8, line: Line) -> Rest
+    ensures { λ r. ⌜ r ≡ concludedRest x (Open slot (x .version) entry line) ⌝ }
 {
     let phase = Phase::Open {
         slot,
@@ -122,15 +155,15 @@ fn opens(b: Book, slot: u16, x: Exchange, entry: u8, line: Line) -> Endpoint
         entry,
         line,
     };
-    concluded(b, x, phase)
+    concluded(x, phase)
 }
 
 // Nothing is delivered or taken.
-fn quiet(state: Endpoint, sent: ChannelByte) -> StepMade
-    ensures { λ r. ⌜ r ≡ quietStep state sent ⌝ }
+fn quiet(rest: Rest, sent: ChannelByte) -> StepMade
+    ensures { λ r. ⌜ r ≡ quietStep rest sent ⌝ }
 {
     StepMade {
-        state,
+        rest,
         sent,
         delivered: Delivered::Nothing,
         taken: false,
@@ -142,13 +175,12 @@ fn opens_hearing(b: Book, slot: u16, x: Exchange, entry: u8, g: Drive) -> StepMa
     ensures { λ r. ⌜ r ≡ stepMade (opensHearing b slot x entry g) ⌝ }
 {
     let fresh = fresh_line();
-    let none_sent = fresh.outbound;
     let inbound = fresh.inbound;
-    let w = writing(shape_of(entry_of(b, entry), x.version), none_sent, g);
+    let w = first_written(shape_of(entry_of(b, entry), x.version), g);
     let outbound = w.outbound;
     let line = Line { outbound, inbound };
     let sent = w.sent;
-    quiet(opens(b, slot, x, entry, line), sent)
+    quiet(opens(slot, x, entry, line), sent)
 }
 
 fn exchange_step(b: Book, slot: u16, x: Exchange, heard: ChannelByte, g: Drive) -> StepMade
@@ -161,15 +193,14 @@ fn exchange_step(b: Book, slot: u16, x: Exchange, heard: ChannelByte, g: Drive) 
     match fate {
         Fate::Stays => quiet(clocked(b, slot, y), sent),
         Fate::OpensHearing(i) => opens_hearing(b, slot, y, i, g),
-        Fate::OpensSending(i) => quiet(opens(b, slot, y, i, fresh_line()), sent),
-        Fate::Refuses(number) => quiet(concluded(b, y, Phase::Refused { number, slot }), sent),
+        Fate::OpensSending(i) => quiet(opens(slot, y, i, fresh_line()), sent),
+        Fate::Refuses(number) => quiet(concluded(y, Phase::Refused { number, slot }), sent),
     }
 }
 
-fn open_at(e: Endpoint, slot: u16, version: u8, entry: u8, line: Line) -> Endpoint
-    ensures { λ r. ⌜ r ≡ openAt e slot version entry line ⌝ }
+fn open_at(e: Endpoint, slot: u16, version: u8, entry: u8, line: Line) -> Rest
+    ensures { λ r. ⌜ r ≡ restOf (openAt e slot version entry line) ⌝ }
 {
-    let book = e.book;
     let nibbles = e.nibbles;
     let values = e.values;
     let phase = Phase::Open {
@@ -178,8 +209,7 @@ fn open_at(e: Endpoint, slot: u16, version: u8, entry: u8, line: Line) -> Endpoi
         entry,
         line,
     };
-    Endpoint {
-        book,
+    Rest {
         nibbles,
         values,
         phase,
@@ -205,11 +235,11 @@ fn open_step(
     let outbound = w.outbound;
     let inbound = r.inbound;
     let line = Line { outbound, inbound };
-    let state = open_at(e, slot, version, entry, line);
+    let rest = open_at(e, slot, version, entry, line);
     let sent = w.sent;
     let delivered = r.delivered;
     StepMade {
-        state,
+        rest,
         sent,
         delivered,
         taken: w.taken,
@@ -235,7 +265,7 @@ fn step(e: Endpoint, heard: ChannelByte, g: Drive) -> StepMade
             entry,
             line,
         } => open_step(e, slot, version, entry, line, heard, g),
-        Phase::Refused { number: _, slot: _ } => quiet(e, ChannelByte::SDIDLE),
+        Phase::Refused { number: _, slot: _ } => quiet(rest_of(e), ChannelByte::SDIDLE),
     }
 }
 
@@ -323,10 +353,12 @@ pub fn well_formed(e: Endpoint) -> bool
     book_ok(b) & phase_in(b, nibbles, values, phase)
 }
 
-fn passed(s: StepMade) -> SlotAnswer
-    ensures { λ r. ⌜ r ≡ passedBy s ⌝ }
+// The end that comes out of a slot has the book that went in.
+fn passed(e: Endpoint, s: StepMade) -> SlotAnswer
+    ensures { λ r. ⌜ r ≡ passedBy (e .book) s ⌝ }
 {
-    let state = s.state;
+    let rest = s.rest;
+    let state = with_book(e.book, rest);
     let sent = s.sent;
     let delivered = s.delivered;
     let stands = outcome(state);
@@ -356,7 +388,7 @@ pub fn slot(e: Endpoint, heard: ChannelByte, g: Drive) -> SlotAnswer
 {
     if well_formed(e) {
         if offer_allowed(e, g) {
-            return passed(step(e, heard, g));
+            return passed(e, step(e, heard, g));
         }
         return refused(e, 12);
     }

@@ -11,6 +11,7 @@ use Rattle.opened.proofs.drive.drive_with.Reads as drive-with
 use Rattle.opened.proofs.drive.idle.Reads as idle
 use Rattle.opened.proofs.reading.reading.Reads as reading
 use Rattle.opened.proofs.writing.writing.Reads as writing
+use Rattle.opened.proofs.writing.first_written.Reads as first-written
 
 pub shape-of-one : (a : _) (r s : _) (x y : _) → shape-of.Post tt a r x → shape-of.Post tt a s y → r ≡ s
 shape-of-one a r s x y p q = one-reply _ p q
@@ -41,3 +42,6 @@ reading-one a r s x y p q = one-reply _ (p .0) (q .0)
 
 pub writing-one : (a : _) (r s : _) (x y : _) → writing.Post tt a r x → writing.Post tt a s y → r ≡ s
 writing-one a r s x y p q = one-reply _ p q
+
+pub first-written-one : (a : _) (r s : _) (x y : _) → first-written.Post tt a r x → first-written.Post tt a s y → r ≡ s
+first-written-one a r s x y p q = one-reply _ p q

@@ -18,7 +18,7 @@ ghost use Prim.Native.Nat.{_-_, _*_};
 ghost use lib.Dec.{eqb};
 ghost use Rattle.channel.specs.Bytes.{byte, dhByte};
 ghost use Rattle.channel.specs.Forms.{unitsOf};
-ghost use Rattle.protocol.specs.Opened.{openingSd, bkSent, writesSd, held, writesOffer, writesDue, writesUnit, writesData, writing};
+ghost use Rattle.protocol.specs.Opened.{openingSd, bkSent, writesSd, held, writesOffer, writesDue, writesUnit, writesData, writing, freshLine};
 ghost use Rattle.opened.specs.OpenMade.{writingMade, sendingByte};
 
 // What becomes of the sending half, the byte sent, and whether the offered unit is taken.
@@ -176,4 +176,11 @@ pub fn writing(s: Shape, o: Outbound, g: Drive) -> WritingMade
         return writes(o, opening + 1, Half::Empty, pair_byte(opening), false);
     }
     writes_data(s, o, g)
+}
+
+// The first byte after the opening, an Sd.
+pub fn first_written(s: Shape, g: Drive) -> WritingMade
+    ensures { λ r. ⌜ r ≡ writingMade (writing s (freshLine .outbound) g) ⌝ }
+{
+    writes_sd(s, outbound_of(0, Half::Empty, false, false), 1, g)
 }

@@ -48,7 +48,7 @@ joinedOn maskO e maskA es d =
 
 -- what both ends report after n slots
 abbrev reports : ℕ → Joined → List Outcome
-reports n j = outcomeOf (after n j .o) ∷ outcomeOf (after n j .a) ∷ []
+reports n j = let k = after n j in outcomeOf (k .o) ∷ outcomeOf (k .a) ∷ []
 
 -- open in a slot, the leads and BK standing as at the opening
 abbrev openedOn : ℕ → Entry → ℕ → Outcome

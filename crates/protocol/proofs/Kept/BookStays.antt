@@ -28,7 +28,7 @@ by-book b slot t g (OpensHearing i) = refl
 by-book b slot t g (OpensSending i) = refl
 by-book b slot t g (Refuses n) = refl
 
-step-book : (e : Endpoint) (heard : ℕ) (g : Drive) (p : Phase) → stepAt e heard g p .state .book ≡ e .book
+pub step-book : (e : Endpoint) (heard : ℕ) (g : Drive) (p : Phase) → stepAt e heard g p .state .book ≡ e .book
 unfolding started stepAt exchangeStep openStep
 step-book e heard g (Exchanging slot version a s) =
     let t = turn (e .book) (exchangeOf e version a s) (kindOf heard) in

@@ -12,8 +12,8 @@ entry-of-requires c κs = search needs
 shape-of-requires : tie.Need-shape-of-requires
 shape-of-requires c κs = search needs
 
-writing-requires : tie.Need-writing-requires
-writing-requires c κs = search needs
+first-written-requires : tie.Need-first-written-requires
+first-written-requires c κs = search needs
 
 opens-requires : tie.Need-opens-requires
 opens-requires c κs = search needs
@@ -22,7 +22,7 @@ quiet-requires : tie.Need-quiet-requires
 quiet-requires c κs = search needs
 
 returns : tie.Need-returns
-returns c = simp (c .quiet .ensures, c .before .opens .ensures, c .before .before .before .before .writing .ensures, c .before .before .before .before .before .shape-of .ensures, c .before .before .before .before .before .before .entry-of .ensures, c .before .before .before .before .before .before .before .before .before .fresh-line .ensures)
+returns c = simp (c .quiet .ensures, c .before .opens .ensures, c .before .before .before .before .first-written .ensures, c .before .before .before .before .before .shape-of .ensures, c .before .before .before .before .before .before .entry-of .ensures, c .before .before .before .before .before .before .before .before .fresh-line .ensures)
 
 pub opens-hearing-spec : {M : Type 1} → statement M
 opens-hearing-spec =
@@ -31,7 +31,7 @@ opens-hearing-spec =
     fresh-line-requires
     entry-of-requires
     shape-of-requires
-    writing-requires
+    first-written-requires
     opens-requires
     quiet-requires
     returns)

@@ -2,6 +2,7 @@
 use mathlib.Core.Path.{sym, _∙_}
 use Rattle.protocol.specs.Slot.{slotOf}
 use Rattle.endpoint.proofs.Says.{replies}
+use Rattle.endpoint.proofs.Steps.{slot-passes}
 use borrow.Author.Needs.{needs}
 use Rattle.endpoint.proofs.slot.slot.Statement.{statement}
 use Rattle.endpoint.proofs.slot.slot.Tie as tie
@@ -19,8 +20,10 @@ passed-requires : tie.Need-passed-requires
 passed-requires c κs = search needs
 
 returns : tie.Need-returns
-unfolding slotOf
-returns c = replies _ _ _ (simp (c .passed .ensures, c .before .step .ensures, sym (c .before .before .before .offer-allowed .ensures) ∙ c .before .before .if2 .taken, sym (c .before .before .before .before .before .well-formed .ensures) ∙ c .before .before .before .before .if1 .taken))
+returns c =
+    replies _ _ _
+    (slot-passes _ _ _ (sym (c .before .before .before .before .before .well-formed .ensures) ∙ c .before .before .before .before .if1 .taken)
+    (sym (c .before .before .before .offer-allowed .ensures) ∙ c .before .before .if2 .taken) (c .before .step .ensures) (c .passed .ensures))
 
 refused-requires : tie.Need-refused-requires
 refused-requires c κs = search needs

@@ -10,9 +10,12 @@ first-exchange-requires c κs = search needs
 exchanging-requires : tie.Need-exchanging-requires
 exchanging-requires c κs = search needs
 
+with-book-requires : tie.Need-with-book-requires
+with-book-requires c κs = search needs
+
 returns : tie.Need-returns
 unfolding started
-returns c = simp (c .exchanging .ensures, c .before .first-exchange .ensures)
+returns c = simp (c .with-book .ensures, c .before .exchanging .ensures, c .before .before .first-exchange .ensures)
 
 pub started-spec : {M : Type 1} → statement M
-started-spec = tie.close (tie.spec first-exchange-requires exchanging-requires returns)
+started-spec = tie.close (tie.spec first-exchange-requires exchanging-requires with-book-requires returns)

@@ -23,6 +23,9 @@ open-step-requires c κs = search needs
 enum-told : tie.Need-enum-told
 enum-told c = search needs
 
+rest-of-requires : tie.Need-rest-of-requires
+rest-of-requires c κs = search needs
+
 quiet-requires : tie.Need-quiet-requires
 quiet-requires c κs = search needs
 
@@ -36,7 +39,7 @@ returns-2 c = simp (c .open-step .ensures, c .before .before .phase2 .given .1)
 
 returns-3 : tie.Need-returns-3
 unfolding stepAt byteSent
-returns-3 c = simp (c .quiet .ensures, c .before .enum-told .given .1)
+returns-3 c = simp (c .quiet .ensures, c .before .rest-of .ensures, c .before .before .enum-told .given .1)
 
 pub step-spec : {M : Type 1} → statement M
 step-spec =
@@ -48,6 +51,7 @@ step-spec =
     enum-known-phase-2
     open-step-requires
     enum-told
+    rest-of-requires
     quiet-requires
     returns
     returns-2
