@@ -1,24 +1,34 @@
 -- The table of kinds: its rule at every entry, and each code read as what it is, whatever B8 is. Assumes nothing.
 use mathlib.Core.Path.{_≡_, refl, sym, subst, _∙_}
 use mathlib.Core.Bool.{cond}
-use mathlib.Core.List.{List}
+use mathlib.Core.List.{List, []}
 use Prim.Native.Nat.{ℕ, _+_, _-_, _*_, _/_, _%_, _<_, _≤_, zero-le}
 use native.Mathlib.Omega.{arith}
-use lib.Dec.{T, eqb, eqb→eq, leb}
-use lib.ListN.{length, getD}
+use lib.Dec.{T, eqb, leb}
+use lib.ListN.{getD}
 use borrow.Author.Tests.{ne-eqb, le-leb, lt-leb}
 use Rattle.ground.specs.Digits.{val}
-use Rattle.ground.proofs.Each.{each-eq}
-use Rattle.ground.proofs.Table.{every, at}
+use Rattle.ground.proofs.Each.{upTo, each-eq}
 use Rattle.channel.specs.Kinds.{kindNumber, nibbleIn, leadsIn, kindFrom, kindOf, howMany}
 use Rattle.channel.specs.declared.byte.Leads.{Leads}
 use Rattle.channel.specs.declared.kind.Kind.the-variants.{Sgvi, Sgp, Sgr, Dl, Dh, Sd, Other}
 
--- a row of the table whose every entry is the number by the rules, which is one computed test, gives the number of each byte of that row
-pub row-rule : (row : List ℕ) (k high low : ℕ) → high ≡ k → T (every (λ low n. eqb n (kindNumber (16 * k + low))) 0 row)
-    → low < length row → getD row low 0 ≡ kindNumber (16 * high + low)
-row-rule row k high low e t h =
-    rw e (eqb→eq (getD row low 0) (kindNumber (16 * k + low)) (at (λ low n. eqb n (kindNumber (16 * k + low))) row t low h))
+-- the entry of a byte: its row by B1 to B4, its place there by B5 to B8
+abbrev entry : List (List ℕ) → ℕ → ℕ
+entry table b = getD (getD table (b / 16) []) (b % 16) 0
+
+-- a table whose every entry is the number by the rules, which is one computed test, gives the number of each byte
+pub table-rule : (table : List (List ℕ)) → T (upTo (λ b. eqb (entry table b) (kindNumber b)) 256) → (b : ℕ) → b < 256 → entry table b ≡ kindNumber b
+table-rule table t b h = each-eq (entry table) kindNumber 256 t b h
+
+-- so does row k of such a table, taken by its number
+pub row-rule : (table : List (List ℕ)) (k high low : ℕ) → ((b : ℕ) → b < 256 → entry table b ≡ kindNumber b)
+    → high ≡ k → high < 16 → low < 16 → getD (getD table k []) low 0 ≡ kindNumber (16 * high + low)
+row-rule table k high low rule e h l =
+    let row : (16 * high + low) / 16 ≡ k = omega (arith, e) in
+    let place : (16 * high + low) % 16 ≡ low = omega arith in
+    subst (λ q. getD (getD table q []) low 0 ≡ kindNumber (16 * high + low)) row
+    (subst (λ m. getD (getD table ((16 * high + low) / 16) []) m 0 ≡ kindNumber (16 * high + low)) place (rule (16 * high + low) (omega arith)))
 
 -- a number below 16 that is none of those before 15 is 15
 past : (k h : ℕ) → k ≤ h → (h ≡ k → ⊥) → k + 1 ≤ h

@@ -2,7 +2,6 @@ pub mod OneReply
 pub mod Test
 pub mod Each
 pub mod EachBool
-pub mod Table
 pub mod Lists
 pub mod PastEnd
 pub mod Figures
