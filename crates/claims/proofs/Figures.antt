@@ -50,6 +50,7 @@ use Rattle.protocol.proofs.Figures.Answering.{AnswerFigures, answer-figures}
 use Rattle.protocol.proofs.Figures.Joining.{PairFigures, pair-figures}
 use Rattle.endpoint.proofs.SaysAll.{outcome-says-all, reply-says-all}
 use Rattle.script.proofs.Samples.{ScriptFigures, script-figures}
+use Rattle.claims.proofs.WholeRuns.{WholeRuns, whole-runs}
 
 -- Bytes on the channel, forms of data, the vote and the version.
 pub record ChannelHeld : Type 0 where
@@ -152,6 +153,7 @@ pub record EndHeld : Type 0 where
   pub outcomes : (o p : Outcome) → saysOutcome o ≡ saysOutcome p → o ≡ p
   pub replies : (r s : Reply) → saysReply r ≡ saysReply s → r ≡ s
   pub pair : PairFigures
+  pub whole : WholeRuns
 
 end-held : EndHeld
 end-held =
@@ -163,6 +165,7 @@ end-held =
       outcomes = outcome-says-all;
       replies = reply-says-all;
       pair = pair-figures;
+      whole = whole-runs;
     }
 
 pub record SentencesHeld : Type 0 where

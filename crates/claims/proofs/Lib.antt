@@ -6,4 +6,5 @@ pub mod OneEnd
 pub mod JoinedPair
 pub mod Demands
 pub mod Programs
+pub mod WholeRuns
 pub mod Figures

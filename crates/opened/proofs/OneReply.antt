@@ -9,9 +9,9 @@ use Rattle.opened.proofs.shape.opening_bytes.Reads as opening-bytes
 use Rattle.opened.proofs.line.fresh_line.Reads as fresh-line
 use Rattle.opened.proofs.drive.drive_with.Reads as drive-with
 use Rattle.opened.proofs.drive.idle.Reads as idle
-use Rattle.opened.proofs.reading.reading.Reads as reading
-use Rattle.opened.proofs.writing.writing.Reads as writing
-use Rattle.opened.proofs.writing.first_written.Reads as first-written
+use Rattle.opened.proofs.shape.pair_form.Reads as pair-form
+use Rattle.opened.proofs.line.outbound_of.Reads as outbound-of
+use Rattle.opened.proofs.line.inbound_of.Reads as inbound-of
 
 pub shape-of-one : (a : _) (r s : _) (x y : _) → shape-of.Post tt a r x → shape-of.Post tt a s y → r ≡ s
 shape-of-one a r s x y p q = one-reply _ p q
@@ -37,11 +37,11 @@ drive-with-one a r s x y p q = one-reply _ p q
 pub idle-one : (a : _) (r s : _) (x y : _) → idle.Post tt a r x → idle.Post tt a s y → r ≡ s
 idle-one a r s x y p q = one-reply _ p q
 
-pub reading-one : (a : _) (r s : _) (x y : _) → reading.Post tt a r x → reading.Post tt a s y → r ≡ s
-reading-one a r s x y p q = one-reply _ (p .0) (q .0)
+pub pair-form-one : (a : _) (r s : _) (x y : _) → pair-form.Post tt a r x → pair-form.Post tt a s y → r ≡ s
+pair-form-one a r s x y p q = one-reply _ p q
 
-pub writing-one : (a : _) (r s : _) (x y : _) → writing.Post tt a r x → writing.Post tt a s y → r ≡ s
-writing-one a r s x y p q = one-reply _ p q
+pub outbound-of-one : (a : _) (r s : _) (x y : _) → outbound-of.Post tt a r x → outbound-of.Post tt a s y → r ≡ s
+outbound-of-one a r s x y p q = one-reply _ p q
 
-pub first-written-one : (a : _) (r s : _) (x y : _) → first-written.Post tt a r x → first-written.Post tt a s y → r ≡ s
-first-written-one a r s x y p q = one-reply _ p q
+pub inbound-of-one : (a : _) (r s : _) (x y : _) → inbound-of.Post tt a r x → inbound-of.Post tt a s y → r ≡ s
+inbound-of-one a r s x y p q = one-reply _ p q

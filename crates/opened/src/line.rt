@@ -9,7 +9,7 @@ ghost use mathlib.Core.Path.{_≡_};
 ghost use Rattle.protocol.specs.Opened.{outboundOf, inboundOf, idleLeads, freshLine};
 
 // The sending half.
-pub(crate) fn outbound_of(opening: u8, due: Half, bk1: bool, bk2: bool) -> Outbound
+pub fn outbound_of(opening: u8, due: Half, bk1: bool, bk2: bool) -> Outbound
     ensures { λ r. ⌜ r ≡ outboundOf opening due bk1 bk2 ⌝ }
 {
     Outbound {
@@ -21,7 +21,7 @@ pub(crate) fn outbound_of(opening: u8, due: Half, bk1: bool, bk2: bool) -> Outbo
 }
 
 // The receiving half.
-pub(crate) fn inbound_of(half: Half, pair: u8, last: Signals, standing: Signals) -> Inbound
+pub fn inbound_of(half: Half, pair: u8, last: Signals, standing: Signals) -> Inbound
     ensures { λ r. ⌜ r ≡ inboundOf half pair last standing ⌝ }
 {
     Inbound {

@@ -49,7 +49,7 @@ pub fn is_word(s: Shape) -> bool
 }
 
 // Forms 7 and 8 have the pair after the first 16 bytes.
-pub(crate) fn pair_form(f: Form) -> bool
+pub fn pair_form(f: Form) -> bool
     ensures { λ r. ⌜ r ≡ pairForm f ⌝ }
 {
     match f {

@@ -1,4 +1,5 @@
--- The worked figures of the joined pair, and the sample of a run, by computation. Assumes nothing.
+-- The worked figures of the joined pair, and the sample of a run, by computation. Of the runs to an end that opens one is here; the others are
+-- in `claims` (WholeRuns), where fewer must-fail edits prove them again. Assumes nothing.
 use mathlib.Core.Path.{_≡_, refl}
 use mathlib.Core.Bool.{true, false}
 use mathlib.Core.List.{List, [], _∷_, _++_}
@@ -20,41 +21,37 @@ use Rattle.protocol.specs.declared.Offer.the-variants as offer
 use Rattle.protocol.specs.declared.Outcome.{Outcome}
 use Rattle.protocol.specs.declared.Outcome.the-variants.{Open, Refused}
 
-abbrev profileOf : ℕ → Entry
+abbrev pub profileOf : ℕ → Entry
 profileOf form = record { p0 = 1; p1 = 2; p2 = 3; p3 = 4; p4 = 5; form = form; w = 0 }
 
-abbrev profile : Entry
+abbrev pub profile : Entry
 profile = profileOf 7
 
--- another profile
-abbrev other : ℕ → Entry
-other form = record { p0 = 1; p1 = 2; p2 = 3; p3 = 4; p4 = 6; form = form; w = 0 }
-
-abbrev bookFor : ℕ → ℕ → ℕ → Book
+abbrev pub bookFor : ℕ → ℕ → ℕ → Book
 bookFor role mask limit = bookWith role mask limit 1 (profile ∷ replicate 7 noEntry)
 
-abbrev after : ℕ → Joined → Joined
+abbrev pub after : ℕ → Joined → Joined
 after zero j = j
 after (suc n) j = after n (joinedSlot idle idle j)
 
-abbrev pair : ℕ → ℕ → ℕ → ℕ → Joined
+abbrev pub pair : ℕ → ℕ → ℕ → ℕ → Joined
 pair maskO maskA limit d = joined (started (bookFor originating maskO limit)) (started (bookFor answering maskA limit)) d
 
 -- an originator with this mask and entry, and an answerer with this mask and these entries, limits 500
-abbrev joinedOn : ℕ → Entry → ℕ → List Entry → ℕ → Joined
+abbrev pub joinedOn : ℕ → Entry → ℕ → List Entry → ℕ → Joined
 joinedOn maskO e maskA es d =
     joined (started (bookWith originating maskO 500 1 (e ∷ replicate 7 noEntry)))
     (started (bookWith answering maskA 500 (length es) (es ++ replicate (8 - length es) noEntry))) d
 
 -- what both ends report after n slots
-abbrev reports : ℕ → Joined → List Outcome
+abbrev pub reports : ℕ → Joined → List Outcome
 reports n j = let k = after n j in outcomeOf (k .o) ∷ outcomeOf (k .a) ∷ []
 
 -- open in a slot, the leads and BK standing as at the opening
-abbrev openedOn : ℕ → Entry → ℕ → Outcome
+abbrev pub openedOn : ℕ → Entry → ℕ → Outcome
 openedOn version e slot = Open version e slot idleSignals
 
-abbrev opened : ℕ → Outcome
+abbrev pub opened : ℕ → Outcome
 opened slot = openedOn 2 profile slot
 
 -- an answerer after it has heard these bytes, one a slot
@@ -72,22 +69,10 @@ pub record PairFigures : Type 0 where
   pub opens-424-423 : reports 425 (pair 3 3 500 1) ≡ opened 424 ∷ opened 423 ∷ []
   -- with masks 1 and 2: O refused 21 43, A refused 21 44
   pub refused-43-44 : reports 45 (pair 1 2 500 1) ≡ Refused 21 43 ∷ Refused 21 44 ∷ []
-  -- delay 2, limits 430: O opens in slot 429, A in 427
-  pub opens-429-427 : reports 430 (pair 3 3 430 2) ≡ opened 429 ∷ opened 427 ∷ []
-  -- limits 429: A opens in 427, O refuses 23 in slot 428
-  pub refused-428 : reports 429 (pair 3 3 429 2) ≡ Refused 23 428 ∷ opened 427 ∷ []
-  -- form 8 stands with mask 3: with a form 8 entry in both the ends open on version 2
-  pub eight-opens : reports 425 (joinedOn 3 (profileOf 8) 3 (profileOf 8 ∷ []) 1) ≡ openedOn 2 (profileOf 8) 424 ∷ openedOn 2 (profileOf 8) 423 ∷ []
   -- "shared" is over the identifiers sent: an originator of mask 3 and form 8 shares nothing with an answerer of mask 1, and both refuse 21,
   -- in the slots 3d+40 and 4d+40
   pub eight-refused-43-44 : reports 45 (joinedOn 3 (profileOf 8) 1 (profile ∷ []) 1) ≡ Refused 21 43 ∷ Refused 21 44 ∷ []
   pub eight-refused-46-48 : reports 49 (joinedOn 3 (profileOf 8) 1 (profile ∷ []) 2) ≡ Refused 21 46 ∷ Refused 21 48 ∷ []
-  -- an answerer of mask 3 with a form 7 entry 0 and a form 8 entry 1: called on version 1 with the parameters of entry 1 it refuses 22, and so
-  -- does the originator
-  pub left-out : reports 425 (joinedOn 1 (other 7) 3 (profile ∷ other 8 ∷ []) 1) ≡ Refused 22 424 ∷ Refused 22 423 ∷ []
-  -- where entry 0 is the form 8 entry left out, the answerer's own values are the originator's: the originator opens, the answerer refuses 22.
-  -- These books give equal parameters unequal forms, so demand 3 does not speak of them
-  pub entry-0-left-out : reports 425 (joinedOn 1 profile 3 (profileOf 8 ∷ []) 1) ≡ openedOn 1 profile 424 ∷ Refused 22 423 ∷ []
   -- 15 Sgvi, one 43, one Sgvi make no run: one byte of it has come
   pub no-run : awaitsAfter (replicate 15 sgvi ++ (0x43 ∷ sgvi ∷ [])) ≡ Run 0 1
   -- 16 in a row do: the group is awaited
@@ -100,13 +85,8 @@ pair-figures =
       given = refl;
       opens-424-423 = refl;
       refused-43-44 = refl;
-      opens-429-427 = refl;
-      refused-428 = refl;
-      eight-opens = refl;
       eight-refused-43-44 = refl;
       eight-refused-46-48 = refl;
-      left-out = refl;
-      entry-0-left-out = refl;
       no-run = refl;
       run-of-16 = refl;
     }

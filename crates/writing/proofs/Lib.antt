@@ -1,0 +1,2 @@
+pub mod DhOfNibble
+pub mod OneReply
