@@ -45,6 +45,7 @@ use Rattle.protocol.specs.declared.Outcome.{Outcome}
 use Rattle.protocol.specs.declared.Reply.{Reply}
 use Rattle.protocol.proofs.Figures.Exchanging.{ExchangeFigures, exchange-figures}
 use Rattle.protocol.proofs.Figures.Opening.{OpenFigures, open-figures}
+use Rattle.protocol.proofs.Figures.LeadsAhead.{LeadsFigures, leads-figures}
 use Rattle.protocol.proofs.Figures.Refusing.{RefusalFigures, refusal-figures}
 use Rattle.protocol.proofs.Figures.Answering.{AnswerFigures, answer-figures}
 use Rattle.protocol.proofs.Figures.Joining.{PairFigures, pair-figures}
@@ -147,6 +148,7 @@ text-held = record { numerals = figures; back = read-back; scripts = script-figu
 pub record EndHeld : Type 0 where
   pub exchange : ExchangeFigures
   pub opened : OpenFigures
+  pub leads : LeadsFigures
   pub refusals : RefusalFigures
   pub answers : AnswerFigures
   -- answers that say the same are the same
@@ -160,6 +162,7 @@ end-held =
     record {
       exchange = exchange-figures;
       opened = open-figures;
+      leads = leads-figures;
       refusals = refusal-figures;
       answers = answer-figures;
       outcomes = outcome-says-all;

@@ -1,5 +1,5 @@
 -- Open: what an open end reads, delivers, takes and sends. Assumes nothing.
-use mathlib.Core.Bool.{Bool, true, false, cond, _&&_, _||_, Bool·beq}
+use mathlib.Core.Bool.{Bool, true, false, cond, not, _&&_, _||_, Bool·beq}
 use Prim.Native.Nat.{ℕ, _+_, _*_, _-_, _/_}
 use lib.Dec.{eqb, ltb}
 use Rattle.book.specs.declared.Entry.{Entry}
@@ -17,6 +17,8 @@ use Rattle.protocol.specs.declared.Half.the-variants.{Empty, Holds}
 use Rattle.protocol.specs.declared.Shape.{Shape}
 use Rattle.protocol.specs.declared.Shape.the-variants as shape
 use Rattle.protocol.specs.declared.Signals.{Signals}
+use Rattle.protocol.specs.declared.Claim.{Claim}
+use Rattle.protocol.specs.declared.Claim.the-variants.{Free, Second, Owed}
 use Rattle.protocol.specs.declared.Outbound.{Outbound}
 use Rattle.protocol.specs.declared.Inbound.{Inbound}
 use Rattle.protocol.specs.declared.Line.{Line}
@@ -69,15 +71,19 @@ abbrev pub idleSignals : Signals
 idleSignals = record { leads = idleLeads; bk = false }
 
 -- the sending half and the receiving half, put together
-abbrev pub outboundOf : ℕ → Half → (bk1 bk2 : Bool) → Outbound
-outboundOf opening due bk1 bk2 = record { opening = opening; due = due; bk1 = bk1; bk2 = bk2 }
+abbrev pub outboundOf : ℕ → Half → Claim → (last before : Signals) → Outbound
+outboundOf opening due claim last before = record { opening = opening; due = due; claim = claim; last = last; before = before }
 
 abbrev pub inboundOf : Half → ℕ → (last standing : Signals) → Inbound
 inboundOf half pair last standing = record { half = half; pair = pair; last = last; standing = standing }
 
--- at the opening nothing has gone, and it is as if two Sdidle had come
+-- at the opening nothing has gone, and it is as if two Sdidle had gone and two had come
 unfoldable pub freshLine : Line
-freshLine = record { outbound = outboundOf 0 Empty false false; inbound = inboundOf Empty 0 idleSignals idleSignals }
+freshLine =
+    record {
+      outbound = outboundOf 0 Empty Free idleSignals idleSignals;
+      inbound = inboundOf Empty 0 idleSignals idleSignals;
+    }
 
 -- Receiving.
 
@@ -183,47 +189,76 @@ pub record Writing : Type 0 where
 abbrev pub bkSent : Shape → Drive → Bool
 bkSent s g = isWord s && g .flag
 
-abbrev pub writesSd : Shape → Outbound → ℕ → Drive → Writing
-writesSd s o opening g =
+-- an Sd with certain leads: of the last two Sd sent it is the last from now on
+abbrev pub writesSd : Shape → Outbound → ℕ → Claim → Leads → Drive → Writing
+writesSd s o opening claim leads g =
     record {
-      outbound = outboundOf opening Empty (bkSent s g) (o .bk1);
-      sent = Alone (sdByte (g .leads) (bkSent s g));
+      outbound = outboundOf opening Empty claim (record { leads = leads; bk = bkSent s g }) (o .last);
+      sent = Alone (sdByte leads (bkSent s g));
       taken = false;
     }
 
-abbrev pub writes : Outbound → ℕ → Half → Sent → Bool → Writing
-writes o opening due sent taken =
-    record { outbound = outboundOf opening due (o .bk1) (o .bk2); sent = sent; taken = taken }
+-- a byte that is no Sd
+abbrev pub writes : Outbound → ℕ → Half → Claim → Sent → Bool → Writing
+writes o opening due claim sent taken =
+    record { outbound = outboundOf opening due claim (o .last) (o .before); sent = sent; taken = taken }
 
--- the first bytes: 16 Sd, then in forms 7 and 8 the pair 05 0D
+-- the first bytes: 16 Sd with the leads given, then in forms 7 and 8 the pair 05 0D
 unfoldable pub writesOpening : Shape → Outbound → Drive → Writing
 writesOpening s o g =
-    cond (ltb (o .opening) openingSd) (writesSd s o (o .opening + 1) g)
-    (writes o (o .opening + 1) Empty (Alone (cond (eqb (o .opening) openingSd) 0x05 0x0D)) false)
+    cond (ltb (o .opening) openingSd) (writesSd s o (o .opening + 1) (o .claim) (g .leads) g)
+    (writes o (o .opening + 1) Empty (o .claim) (Alone (cond (eqb (o .opening) openingSd) 0x05 0x0D)) false)
 
--- form 0: while the flag is on, Sd goes; no unit is taken unless the last two Sd sent had BK 0
-abbrev pub held : (flag bk1 bk2 : Bool) → Bool
-held flag bk1 bk2 = flag || (bk1 || bk2)
+-- After the first bytes, in forms 0 and 6 the first of six rules that applies; they stand here from the last to the first.
 
-abbrev pub writesOffer : ℕ → Outbound → Drive → Offer → Writing
-writesOffer w o g offer.Nothing = writesSd (shape.Word w) o (o .opening) g
-writesOffer w o g (offer.Unit u) = writes o (o .opening) (Holds (u / 16)) (Alone (dlByte u)) true
+-- 6: an Sd with the leads given; who has a claim on the line keeps it
+abbrev pub writesGiven : Shape → Outbound → Drive → Writing
+writesGiven s o g = writesSd s o (o .opening) (o .claim) (g .leads) g
 
--- a DH due goes first
-abbrev pub writesDue : ℕ → Outbound → Drive → Half → Writing
-writesDue w o g (Holds high) = writes o (o .opening) Empty (Alone (dhByte (16 * high))) false
-writesDue w o g Empty =
-    cond (held (g .flag) (o .bk1) (o .bk2)) (writesSd (shape.Word w) o (o .opening) g) (writesOffer w o g (g .offer))
+-- 5: an offered unit is taken, and none is owed the line any more; in form 0 its DH is due then
+abbrev pub writesWord : ℕ → Outbound → Drive → Offer → Writing
+writesWord w o g offer.Nothing = writesGiven (shape.Word w) o g
+writesWord w o g (offer.Unit u) = writes o (o .opening) (Holds (u / 16)) Free (Alone (dlByte u)) true
 
 -- forms 6, 7 and 8; with none taken form 6 sends Sd, forms 7 and 8 the unit of all ones
 abbrev pub writesUnit : Form → Outbound → Drive → Offer → Writing
-writesUnit f o g (offer.Unit u) = writes o (o .opening) Empty (Unit f u) true
+writesUnit f o g (offer.Unit u) = writes o (o .opening) Empty Free (Unit f u) true
 writesUnit f o g offer.Nothing =
-    cond (pairForm f) (writes o (o .opening) Empty (Unit f (unitsOf f - 1)) false) (writesSd (shape.Unit f) o (o .opening) g)
+    cond (pairForm f) (writes o (o .opening) Empty (o .claim) (Unit f (unitsOf f - 1)) false) (writesGiven (shape.Unit f) o g)
 
+abbrev pub writesOffer : Shape → Outbound → Drive → Offer → Writing
+writesOffer (shape.Word w) o g x = writesWord w o g x
+writesOffer (shape.Unit f) o g x = writesUnit f o g x
+
+-- 4: no unit is owed the line, and the leads given differ from those in either of the last two Sd sent: an Sd with the leads given, and a
+-- second is due; whether or not a unit is offered
+abbrev pub sameLeads : Leads → Leads → Bool
+sameLeads a b = Bool·beq (a .s0) (b .s0) && Bool·beq (a .s1) (b .s1) && Bool·beq (a .s2) (b .s2) && Bool·beq (a .s3) (b .s3)
+
+abbrev pub changed : Leads → Outbound → Bool
+changed leads o = not (sameLeads leads (o .last .leads) && sameLeads leads (o .before .leads))
+
+-- 3: a second Sd due repeats the leads of the first of the two; after it one offered unit is owed the line
+abbrev pub writesClaim : Shape → Outbound → Drive → Claim → Writing
+writesClaim s o g (Second leads) = writesSd s o (o .opening) Owed leads g
+writesClaim s o g Owed = writesOffer s o g (g .offer)
+writesClaim s o g Free =
+    cond (changed (g .leads) o) (writesSd s o (o .opening) (Second (g .leads)) (g .leads) g) (writesOffer s o g (g .offer))
+
+-- 2, form 0, the break rule: while the flag is on, or BK of either of the last two Sd sent was on, an Sd with the leads and flag given
+abbrev pub held : (flag bk1 bk2 : Bool) → Bool
+held flag bk1 bk2 = flag || (bk1 || bk2)
+
+-- 1, form 0: a DH due
+abbrev pub writesDue : ℕ → Outbound → Drive → Half → Writing
+writesDue w o g (Holds high) = writes o (o .opening) Empty (o .claim) (Alone (dhByte (16 * high))) false
+writesDue w o g Empty =
+    cond (held (g .flag) (o .last .bk) (o .before .bk)) (writesGiven (shape.Word w) o g) (writesClaim (shape.Word w) o g (o .claim))
+
+-- in forms 7 and 8 leads claim nothing: a unit is taken, or the unit of all ones goes
 unfoldable pub writesData : Shape → Outbound → Drive → Writing
 writesData (shape.Word w) o g = writesDue w o g (o .due)
-writesData (shape.Unit f) o g = writesUnit f o g (g .offer)
+writesData (shape.Unit f) o g = cond (pairForm f) (writesUnit f o g (g .offer)) (writesClaim (shape.Unit f) o g (o .claim))
 
 unfoldable pub writing : Shape → Outbound → Drive → Writing
 writing s o g = cond (ltb (o .opening) (openingBytes s)) (writesOpening s o g) (writesData s o g)

@@ -20,6 +20,8 @@ use Rattle.protocol.specs.declared.Half.{Half}
 use Rattle.protocol.specs.declared.Half.the-variants.{Empty, Holds}
 use Rattle.protocol.specs.declared.Shape.{Shape}
 use Rattle.protocol.specs.declared.Shape.the-variants as shape
+use Rattle.protocol.specs.declared.Claim.{Claim}
+use Rattle.protocol.specs.declared.Claim.the-variants.{Free, Second, Owed}
 use Rattle.protocol.specs.declared.Outbound.{Outbound}
 use Rattle.protocol.specs.declared.Inbound.{Inbound}
 use Rattle.protocol.specs.declared.Line.{Line}
@@ -101,9 +103,21 @@ abbrev pub halfIn : Shape → Half → Bool
 halfIn s Empty = true
 halfIn s (Holds low) = isWord s && ltb low 16
 
+-- a second Sd is due, or a unit owed the line, in forms 0 and 6 alone, after the 16 Sd, and while no DH is due
+abbrev pub noneDue : Half → Bool
+noneDue Empty = true
+noneDue (Holds high) = false
+
+abbrev pub claimIn : Shape → ℕ → Half → Claim → Bool
+claimIn s opening due Free = true
+claimIn s opening due (Second leads) = not (hasPair s) && leb openingSd opening && noneDue due
+claimIn s opening due Owed = not (hasPair s) && leb openingSd opening && noneDue due
+
+-- BK of the last two Sd sent is off, but in form 0; their leads are any
 unfoldable pub outboundIn : Shape → Outbound → Bool
 outboundIn s o =
-    leb (o .opening) (openingBytes s) && dueIn s (o .opening) (o .due) && (isWord s || not (o .bk1 || o .bk2))
+    leb (o .opening) (openingBytes s) && dueIn s (o .opening) (o .due) && claimIn s (o .opening) (o .due) (o .claim)
+    && (isWord s || not (o .last .bk || o .before .bk))
 
 unfoldable pub inboundIn : Shape → Inbound → Bool
 inboundIn s i = halfIn s (i .half) && leb (i .pair) 2 && (hasPair s || eqb (i .pair) 0)

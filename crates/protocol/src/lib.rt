@@ -48,15 +48,26 @@ pub struct Signals {
     pub bk: bool,
 }
 
+// Who has a claim on the line, after the first bytes, in forms 0 and 6.
+pub enum Claim {
+    // nobody: leads that changed may claim it
+    Free,
+    // the second of two Sd, with the leads of the first
+    Second(Leads),
+    // one offered unit
+    Owed,
+}
+
 // The sending half of an open end.
 pub struct Outbound {
     // how many of the first bytes have gone: 16 Sd, and in forms 7 and 8 the pair
     pub opening: u8,
     // the high nibble whose DH is due, in form 0
     pub due: Half,
-    // BK of the last Sd sent, and of the one before it
-    pub bk1: bool,
-    pub bk2: bool,
+    pub claim: Claim,
+    // the last Sd sent, and the one before it
+    pub last: Signals,
+    pub before: Signals,
 }
 
 // The receiving half of an open end.

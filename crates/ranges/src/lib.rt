@@ -19,6 +19,7 @@ use opened::shape::is_word;
 use opened::shape::opening_bytes;
 use opened::shape::shape_of;
 use protocol::Awaited;
+use protocol::Claim;
 use protocol::Half;
 use protocol::Inbound;
 use protocol::Line;
@@ -34,7 +35,7 @@ ghost use lib.ListN.{drop};
 ghost use Rattle.ground.specs.Digits.{bit, allBelow};
 ghost use Rattle.channel.specs.Forms.{wordFits};
 ghost use Rattle.protocol.specs.Lengths.{allParameterBytes};
-ghost use Rattle.protocol.specs.Ranges.{awaitedIn, inHand, nibblesIn, valuesIn, behind, answeringIn, originatingIn, sendingIn, isVersion, mayLack, versionIn, dueIn, halfIn, outboundIn, inboundIn, refusedIn, exchangeIn, openIn, phaseIn};
+ghost use Rattle.protocol.specs.Ranges.{awaitedIn, inHand, nibblesIn, valuesIn, behind, answeringIn, originatingIn, sendingIn, isVersion, mayLack, versionIn, dueIn, noneDue, claimIn, halfIn, outboundIn, inboundIn, refusedIn, exchangeIn, openIn, phaseIn};
 
 // The places of a group, and the values: the identifier and p0 to p4.
 const PLACES: usize = 6;
@@ -219,11 +220,37 @@ fn half_in(s: Shape, half: Half) -> bool
     }
 }
 
+fn none_due(due: Half) -> bool
+    ensures { λ r. ⌜ r ≡ noneDue due ⌝ }
+{
+    match due {
+        Half::Empty => true,
+        Half::Holds(_) => false,
+    }
+}
+
+// A second Sd is due, or a unit owed the line, in forms 0 and 6 alone, after the 16 Sd, and while no DH is due.
+fn claim_in(s: Shape, opening: u8, due: Half, claim: Claim) -> bool
+    ensures { λ r. ⌜ r ≡ claimIn s opening due claim ⌝ }
+{
+    let may = !has_pair(s) & (OPENING_SD <= opening) & none_due(due);
+    match claim {
+        Claim::Free => true,
+        Claim::Second(_) => may,
+        Claim::Owed => may,
+    }
+}
+
+// BK of the last two Sd sent is off, but in form 0; their leads are any.
 fn outbound_in(s: Shape, o: Outbound) -> bool
     ensures { λ r. ⌜ r ≡ outboundIn s o ⌝ }
 {
     let due = o.due;
-    (o.opening <= opening_bytes(s)) & due_in(s, o.opening, due) & (is_word(s) | !(o.bk1 | o.bk2))
+    let claim = o.claim;
+    (o.opening <= opening_bytes(s))
+        & due_in(s, o.opening, due)
+        & claim_in(s, o.opening, due, claim)
+        & (is_word(s) | !(o.last.bk | o.before.bk))
 }
 
 fn inbound_in(s: Shape, i: Inbound) -> bool

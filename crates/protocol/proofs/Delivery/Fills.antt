@@ -14,7 +14,7 @@ use Rattle.channel.specs.declared.unit.Form.{Form}
 use Rattle.channel.specs.declared.unit.Form.the-variants.{Six, SevenV1, SevenV2, Eight}
 use Rattle.channel.specs.Forms.{unitsOf}
 use Rattle.protocol.specs.Sent.{Sent, Silence, Alone, Part, Unit}
-use Rattle.protocol.specs.Opened.{Writing, pairForm, openingBytes, openingSd, writesUnit, held, writesOffer, writesDue, writesOpening, writesData, writing, shapeOf}
+use Rattle.protocol.specs.Opened.{Writing, pairForm, openingBytes, openingSd, writesWord, writesUnit, writesOffer, changed, writesClaim, held, writesDue, writesOpening, writesData, writing, shapeOf}
 use Rattle.protocol.specs.Exchange.{entryOf}
 use Rattle.protocol.specs.Ranges.{wellFormed}
 use Rattle.protocol.specs.Slot.{Step, openStep, stepAt, offerAllowed, outcomeAt, slotStep}
@@ -25,6 +25,8 @@ use Rattle.protocol.specs.declared.Half.{Half}
 use Rattle.protocol.specs.declared.Half.the-variants.{Empty, Holds}
 use Rattle.protocol.specs.declared.Shape.{Shape}
 use Rattle.protocol.specs.declared.Shape.the-variants as shape
+use Rattle.protocol.specs.declared.Claim.{Claim}
+use Rattle.protocol.specs.declared.Claim.the-variants.{Free, Second, Owed}
 use Rattle.protocol.specs.declared.Outbound.{Outbound}
 use Rattle.protocol.specs.declared.Phase.{Phase}
 use Rattle.protocol.specs.declared.Phase.the-variants.{Exchanging, Open, Refused}
@@ -54,15 +56,10 @@ unfolding writesOpening
 opening-told s o g =
     either-way (ToldOf g) (ltb (o .opening) openingSd) (quiet-told false (g .offer) _ refl refl) (quiet-told false (g .offer) _ refl refl)
 
-offer-told : (w : ℕ) (o : Outbound) (g : Drive) (x : Offer) → g .offer ≡ x → ToldOf g (writesOffer w o g x)
-offer-told w o g offer.Nothing e = quiet-told false (g .offer) _ refl refl
-offer-told w o g (offer.Unit u) e =
+word-told : (w : ℕ) (o : Outbound) (g : Drive) (x : Offer) → g .offer ≡ x → ToldOf g (writesWord w o g x)
+word-told w o g offer.Nothing e = quiet-told false (g .offer) _ refl refl
+word-told w o g (offer.Unit u) e =
     record { offered = λ t. record { unit = u; is = e }; ones = λ f v t r. let z : _≡_ {A = ℕ} 0 1 = cc in absurd (omega arith) }
-
-due-told : (w : ℕ) (o : Outbound) (g : Drive) (h : Half) → ToldOf g (writesDue w o g h)
-due-told w o g (Holds high) = quiet-told false (g .offer) _ refl refl
-due-told w o g Empty =
-    either-way (ToldOf g) (held (g .flag) (o .bk1) (o .bk2)) (quiet-told false (g .offer) _ refl refl) (offer-told w o g (g .offer) refl)
 
 fill-told : (f : Form) → pairForm f ≡ true → (o : Offer) → Told false o (Unit f (unitsOf f - 1))
 fill-told f p o =
@@ -83,10 +80,25 @@ unit-told SevenV1 o g offer.Nothing e = fill-told SevenV1 refl (g .offer)
 unit-told SevenV2 o g offer.Nothing e = fill-told SevenV2 refl (g .offer)
 unit-told Eight o g offer.Nothing e = fill-told Eight refl (g .offer)
 
+offer-told : (s : Shape) (o : Outbound) (g : Drive) → ToldOf g (writesOffer s o g (g .offer))
+offer-told (shape.Word w) o g = word-told w o g (g .offer) refl
+offer-told (shape.Unit f) o g = unit-told f o g (g .offer) refl
+
+claim-told : (s : Shape) (o : Outbound) (g : Drive) (c : Claim) → ToldOf g (writesClaim s o g c)
+claim-told s o g (Second leads) = quiet-told false (g .offer) _ refl refl
+claim-told s o g Owed = offer-told s o g
+claim-told s o g Free = either-way (ToldOf g) (changed (g .leads) o) (quiet-told false (g .offer) _ refl refl) (offer-told s o g)
+
+due-told : (w : ℕ) (o : Outbound) (g : Drive) (h : Half) → ToldOf g (writesDue w o g h)
+due-told w o g (Holds high) = quiet-told false (g .offer) _ refl refl
+due-told w o g Empty =
+    either-way (ToldOf g) (held (g .flag) (o .last .bk) (o .before .bk)) (quiet-told false (g .offer) _ refl refl)
+    (claim-told (shape.Word w) o g (o .claim))
+
 data-told : (s : Shape) (o : Outbound) (g : Drive) → ToldOf g (writesData s o g)
 unfolding writesData
 data-told (shape.Word w) o g = due-told w o g (o .due)
-data-told (shape.Unit f) o g = unit-told f o g (g .offer) refl
+data-told (shape.Unit f) o g = either-way (ToldOf g) (pairForm f) (unit-told f o g (g .offer) refl) (claim-told (shape.Unit f) o g (o .claim))
 
 writing-told : (s : Shape) (o : Outbound) (g : Drive) → ToldOf g (writing s o g)
 unfolding writing

@@ -23,23 +23,23 @@ pub record On : Type 0 where
   pub version : ℕ
   pub entry : Entry
 
-abbrev words : ℕ → On
+abbrev pub words : ℕ → On
 words w = record { version = 2; entry = profile 0 w }
 
-abbrev six : On
+abbrev pub six : On
 six = record { version = 2; entry = profile 6 0 }
 
-abbrev seven : ℕ → On
+abbrev pub seven : ℕ → On
 seven version = record { version = version; entry = profile 7 0 }
 
-abbrev eight : On
+abbrev pub eight : On
 eight = record { version = 2; entry = profile 8 0 }
 
 -- form 8 stands with mask 2
 abbrev maskOf : On → ℕ
 maskOf f = cond (eqb (f .entry .form) 8) 2 3
 
-abbrev at : On → Outbound → Inbound → Endpoint
+abbrev pub at : On → Outbound → Inbound → Endpoint
 at f o i = opened (bookOf 1 (maskOf f) 500 (f .entry ∷ [])) (f .version) o i
 
 -- the signals that stand after two Sdidle
@@ -59,7 +59,7 @@ abbrev leadsOffering : Leads → ℕ → Drive
 leadsOffering s u = driveWith s false (offer.Unit u)
 
 -- this byte goes, and the unit offered is taken or not
-abbrev sends : On → Drive → ℕ → Bool → Slot
+abbrev pub sends : On → Drive → ℕ → Bool → Slot
 sends f given byte taken = openSlot (f .version) (f .entry) 0x43 given byte [] taken idle
 
 -- from the opening: 16 Sd with the leads given, then these bytes, an offer being taken in none of these slots; then the unit 1 goes as the
@@ -67,16 +67,17 @@ sends f given byte taken = openSlot (f .version) (f .entry) 0x43 given byte [] t
 abbrev opening : On → List ℕ → ℕ → Row
 opening f pair byte =
     row (at f (sent 0 Empty 0 0) idleGot)
-    (replicate 15 (sends f (offers 1) 0x43 false)
+    (replicate 13 (sends f (offers 1) 0x43 false)
     ++ (sends f (leadsOffering (leads 1 0 1 1) 1) 0xB3 false ∷ [])
+    ++ replicate 2 (sends f (offers 1) 0x43 false)
     ++ map (λ b. sends f (offers 1) b false) pair
     ++ (sends f (offers 1) byte true ∷ []))
 
 -- a slot: what is given, the byte that goes, and whether the unit offered is taken
-abbrev Sends : Type 0
+abbrev pub Sends : Type 0
 Sends = Drive × ℕ × Bool
 
-abbrev sendsEach : On → List Sends → List Slot
+abbrev pub sendsEach : On → List Sends → List Slot
 sendsEach f slots = map (λ (s : Sends). sends f (s .0) (s .1) (s .2)) slots
 
 -- so many of the first bytes have gone

@@ -10,13 +10,17 @@ use Rattle.book.specs.declared.Book.{Book}
 use Rattle.book.specs.Book.{noEntry, bookWith}
 use Rattle.channel.specs.declared.unit.Form.the-variants.{Six}
 use Rattle.protocol.specs.Sent.{Silence, Unit}
+use Rattle.protocol.specs.Opened.{outboundOf}
 use Rattle.protocol.specs.Slot.{started, step, slotStep, slotOf, refuses}
 use Rattle.protocol.proofs.Computing.{computing}
 use Rattle.protocol.specs.declared.Awaited.{Awaited}
 use Rattle.protocol.specs.declared.Awaited.the-variants.{Run, Group, Nothing}
 use Rattle.protocol.specs.declared.Sending.{Sending}
 use Rattle.protocol.specs.declared.Sending.the-variants.{Idle, Hail, Mask, Parameters, Done}
+use Rattle.protocol.specs.declared.Half.{Half}
 use Rattle.protocol.specs.declared.Half.the-variants.{Empty, Holds}
+use Rattle.protocol.specs.declared.Claim.{Claim}
+use Rattle.protocol.specs.declared.Claim.the-variants.{Free, Second, Owed}
 use Rattle.protocol.specs.declared.Outbound.{Outbound}
 use Rattle.protocol.specs.declared.Inbound.{Inbound}
 use Rattle.protocol.specs.declared.Phase.the-variants as phase
@@ -25,7 +29,7 @@ use Rattle.protocol.specs.declared.Delivered.the-variants as delivered
 use Rattle.protocol.specs.declared.Outcome.the-variants as outcome
 use Rattle.protocol.specs.declared.Reply.{Reply}
 use Rattle.protocol.specs.declared.Reply.the-variants as reply
-use Rattle.protocol.proofs.Figures.Rows.{profile, bookOf, signals, nothing, offers, Slot, Row, defined, written, row, passes, exchanging, six, opened, sent, got, idleGot, openSlot}
+use Rattle.protocol.proofs.Figures.Rows.{profile, bookOf, leads, signals, nothing, offers, Slot, Row, defined, written, row, passes, exchanging, six, opened, sent, got, idleGot, openSlot}
 
 -- Open ends of each form, the first bytes having gone.
 
@@ -299,6 +303,10 @@ openSince b slot version entry nibbles o i =
 abbrev onForm : ℕ → ℕ → Outbound → Inbound → Endpoint
 onForm form w o i = openSince (bookOn 2 (profile form w)) 300 2 0 [] o i
 
+-- so many of the first bytes have gone, a DH is due or none, and someone has a claim on the line
+abbrev claimed : ℕ → Half → Claim → Outbound
+claimed opening due c = outboundOf opening due c (signals 0 1 0 0 0) (signals 0 1 0 0 0)
+
 abbrev opens : Ranged
 opens =
     -- the slot of opening below L; the version a bit of the mask; the entry below n; nibbles 0; values any
@@ -341,6 +349,25 @@ opens =
     ∷ (onForm 6 0 (sent 16 Empty 1 0) idleGot, 13)
     ∷ (onForm 6 0 (sent 16 Empty 0 1) idleGot, 13)
     ∷ (onForm 8 0 (sent 16 Empty 1 0) idleGot, 13)
+    -- their leads any
+    ∷ (onForm 6 0 (outboundOf 16 Empty Free (signals 1 1 1 1 0) (signals 0 0 0 0 0)) idleGot, 0)
+    ∷ (onForm 8 0 (outboundOf 0 Empty Free (signals 0 0 0 0 0) (signals 1 1 1 1 0)) idleGot, 0)
+    -- a second Sd due, with any leads, or a unit owed the line: in forms 0 and 6 alone, after the 16 Sd, while no DH is due
+    ∷ (onForm 0 8 (claimed 16 Empty (Second (leads 1 1 1 1))) idleGot, 0)
+    ∷ (onForm 0 8 (claimed 15 Empty (Second (leads 1 1 1 1))) idleGot, 13)
+    ∷ (onForm 0 8 (claimed 16 (Holds 0) (Second (leads 1 1 1 1))) idleGot, 13)
+    ∷ (onForm 0 8 (claimed 16 Empty Owed) idleGot, 0)
+    ∷ (onForm 0 8 (claimed 15 Empty Owed) idleGot, 13)
+    ∷ (onForm 0 8 (claimed 16 (Holds 0) Owed) idleGot, 13)
+    ∷ (onForm 6 0 (claimed 16 Empty (Second (leads 0 0 0 0))) idleGot, 0)
+    ∷ (onForm 6 0 (claimed 15 Empty (Second (leads 0 0 0 0))) idleGot, 13)
+    ∷ (onForm 6 0 (claimed 16 Empty Owed) idleGot, 0)
+    ∷ (onForm 6 0 (claimed 15 Empty Owed) idleGot, 13)
+    ∷ (onForm 7 0 (claimed 18 Empty Free) idleGot, 0)
+    ∷ (onForm 7 0 (claimed 18 Empty (Second (leads 0 1 0 0))) idleGot, 13)
+    ∷ (onForm 7 0 (claimed 18 Empty Owed) idleGot, 13)
+    ∷ (onForm 8 0 (claimed 16 Empty (Second (leads 0 1 0 0))) idleGot, 13)
+    ∷ (onForm 8 0 (claimed 18 Empty Owed) idleGot, 13)
     -- low nibble received in form 0 alone, below 16
     ∷ (onForm 0 8 (sent 16 Empty 0 0) (got (Holds 15) 0 (signals 0 0 0 0 0) (signals 1 1 1 1 1)), 0)
     ∷ (onForm 0 8 (sent 16 Empty 0 0) (got (Holds 16) 0 (signals 0 1 0 0 0) (signals 0 1 0 0 0)), 13)

@@ -17,6 +17,7 @@ use Rattle.protocol.specs.declared.Sending.{Sending}
 use Rattle.protocol.specs.declared.Half.{Half}
 use Rattle.protocol.specs.declared.Half.the-variants.{Empty}
 use Rattle.protocol.specs.declared.Signals.{Signals}
+use Rattle.protocol.specs.declared.Claim.the-variants.{Free}
 use Rattle.protocol.specs.declared.Outbound.{Outbound}
 use Rattle.protocol.specs.declared.Inbound.{Inbound}
 use Rattle.protocol.specs.declared.Phase.the-variants as phase
@@ -137,9 +138,9 @@ opened b version o i =
       phase = phase.Open 300 version 0 (record { outbound = o; inbound = i });
     }
 
--- so many of the first bytes have gone; nothing is due, and the last two Sd had these BK
+-- so many of the first bytes have gone; a DH is due or not, and the last two Sd had leads 0100 and these BK
 abbrev pub sent : ℕ → Half → ℕ → ℕ → Outbound
-sent opening due bk1 bk2 = outboundOf opening due (on bk1) (on bk2)
+sent opening due bk1 bk2 = outboundOf opening due Free (signals 0 1 0 0 bk1) (signals 0 1 0 0 bk2)
 
 abbrev pub got : Half → ℕ → Signals → Signals → Inbound
 got half pair last standing = inboundOf half pair last standing

@@ -1,5 +1,5 @@
 -- The sending half of an open end stays in its range. Assumes nothing.
-use mathlib.Core.Path.{_≡_, refl}
+use mathlib.Core.Path.{_≡_, refl, subst}
 use mathlib.Core.Bool.{Bool, true, false, not, _&&_, _||_}
 use Prim.Native.Nat.{ℕ, _+_, _*_, _/_, _^_, _<_, _≤_}
 use native.Mathlib.Omega.{arith}
@@ -8,12 +8,15 @@ use borrow.Author.Tests.{lt-ltb, le-leb, ltb-true, leb-true, ltb-false}
 use Rattle.ground.proofs.Test.{by-test, both-left, both-right}
 use Rattle.channel.specs.declared.unit.Form.{Form}
 use Rattle.channel.specs.Forms.{wordFits}
-use Rattle.protocol.specs.Opened.{hasUnit, isWord, pairForm, hasPair, openingSd, openingBytes, freshLine, Writing, writesSd, writesOpening, held, writesOffer, writesDue, writesUnit, writesData, writing}
-use Rattle.protocol.specs.Ranges.{dueIn, outboundIn}
+use Rattle.channel.specs.declared.byte.Leads.{Leads}
+use Rattle.protocol.specs.Opened.{hasUnit, isWord, pairForm, hasPair, openingSd, openingBytes, freshLine, Writing, writesSd, writesOpening, writesWord, writesUnit, writesOffer, changed, writesClaim, held, writesDue, writesData, writing}
+use Rattle.protocol.specs.Ranges.{dueIn, noneDue, claimIn, outboundIn}
 use Rattle.protocol.specs.declared.Half.{Half}
 use Rattle.protocol.specs.declared.Half.the-variants.{Empty, Holds}
 use Rattle.protocol.specs.declared.Shape.{Shape}
 use Rattle.protocol.specs.declared.Shape.the-variants as shape
+use Rattle.protocol.specs.declared.Claim.{Claim}
+use Rattle.protocol.specs.declared.Claim.the-variants.{Free, Second, Owed}
 use Rattle.protocol.specs.declared.Outbound.{Outbound}
 use Rattle.protocol.specs.declared.Offer.{Offer}
 use Rattle.protocol.specs.declared.Offer.the-variants as offer
@@ -26,10 +29,11 @@ due-empty (shape.Word w) opening = refl
 due-empty (shape.Unit f) opening = refl
 
 -- the parts of the sending half's range
-record OutboundIn (s : Shape) (o : Outbound) : Type 0 where
+pub record OutboundIn (s : Shape) (o : Outbound) : Type 0 where
   pub opening : o .opening ≤ openingBytes s
   pub due : dueIn s (o .opening) (o .due) ≡ true
-  pub breaks : (isWord s || not (o .bk1 || o .bk2)) ≡ true
+  pub claim : claimIn s (o .opening) (o .due) (o .claim) ≡ true
+  pub breaks : (isWord s || not (o .last .bk || o .before .bk)) ≡ true
 
 abbrev Kept : Shape → Writing → Type 0
 Kept s w = OutboundIn s (w .outbound)
@@ -41,16 +45,50 @@ moved-up (shape.Word w) flag bk1 bk2 e = refl
 moved-up (shape.Unit f) flag true bk2 e = e
 moved-up (shape.Unit f) flag false bk2 e = refl
 
+-- a claim stays in its range while the first bytes go on and no DH is due
+abbrev mayClaim : Shape → ℕ → Half → Bool
+mayClaim s opening due = not (hasPair s) && leb openingSd opening && noneDue due
+
+claim-later : (s : Shape) (n m : ℕ) (due : Half) → n ≤ m → mayClaim s n due ≡ true → mayClaim s m Empty ≡ true
+claim-later s n m due l e =
+    let first = both-left (not (hasPair s) && leb openingSd n) (noneDue due) e in
+    let past = leb-true openingSd n (both-right (not (hasPair s)) (leb openingSd n) first) in
+    both (both (both-left (not (hasPair s)) (leb openingSd n) first) (le-leb openingSd m (omega arith))) refl
+
+claim-stays : (s : Shape) (n m : ℕ) (due : Half) (c : Claim) → n ≤ m → claimIn s n due c ≡ true → claimIn s m Empty c ≡ true
+claim-stays s n m due Free l e = refl
+claim-stays s n m due (Second leads) l e = claim-later s n m due l e
+claim-stays s n m due Owed l e = claim-later s n m due l e
+
 module _ (s : Shape) (o : Outbound) (g : Drive) (i : OutboundIn s o) where
-  sd-kept : (opening : ℕ) → opening ≤ openingBytes s → Kept s (writesSd s o opening g)
-  sd-kept opening l =
-      record { opening = l; due = due-empty s opening; breaks = moved-up s (g .flag) (o .bk1) (o .bk2) (i .breaks) }
+  sd-kept : (opening : ℕ) (c : Claim) (leads : Leads) → opening ≤ openingBytes s → claimIn s opening Empty c ≡ true
+      → Kept s (writesSd s o opening c leads g)
+  sd-kept opening c leads l e =
+      record {
+        opening = l;
+        due = due-empty s opening;
+        claim = e;
+        breaks = moved-up s (g .flag) (o .last .bk) (o .before .bk) (i .breaks);
+      }
+
+  -- who has a claim keeps it
+  same-claim : (opening : ℕ) → o .opening ≤ opening → claimIn s opening Empty (o .claim) ≡ true
+  same-claim opening l = claim-stays s (o .opening) opening (o .due) (o .claim) l (i .claim)
+
+  given-kept : (opening : ℕ) → o .opening ≤ opening → opening ≤ openingBytes s → Kept s (writesSd s o opening (o .claim) (g .leads) g)
+  given-kept opening l h = sd-kept opening (o .claim) (g .leads) h (same-claim opening l)
 
   opening-kept : o .opening < openingBytes s → Kept s (writesOpening s o g)
   unfolding writesOpening
   opening-kept l =
-      by-test (Kept s) (ltb (o .opening) openingSd) (λ t. sd-kept (o .opening + 1) (omega arith))
-      (λ t. record { opening = omega arith; due = due-empty s (o .opening + 1); breaks = i .breaks })
+      by-test (Kept s) (ltb (o .opening) openingSd) (λ t. given-kept (o .opening + 1) (omega arith) (omega arith))
+      (λ t.
+      record {
+        opening = omega arith;
+        due = due-empty s (o .opening + 1);
+        claim = same-claim (o .opening + 1) (omega arith);
+        breaks = i .breaks;
+      })
 
 -- an offered unit is one of the shape's
 abbrev pub Fits : Shape → Offer → Type 0
@@ -58,57 +96,84 @@ Fits s offer.Nothing = Unit {0}
 Fits s (offer.Unit u) = hasUnit s u ≡ true
 
 -- form 0: the high nibble of a word of w bits is due
-module _ (w : ℕ) (o : Outbound) (g : Drive) (i : OutboundIn (shape.Word w) o) (past : openingSd ≤ o .opening) where
-  offer-kept : (f : Offer) → Fits (shape.Word w) f → Kept (shape.Word w) (writesOffer w o g f)
-  unfolding hasUnit wordFits
-  offer-kept offer.Nothing fits = sd-kept (shape.Word w) o g i (o .opening) (i .opening)
-  offer-kept (offer.Unit u) fits =
-      record {
-        opening = i .opening;
-        due = both (le-leb openingSd (o .opening) past) (lt-ltb (16 * (u / 16)) (2 ^ w) (omega (arith, ltb-true u (2 ^ w) fits)));
-        breaks = i .breaks;
-      }
+word-kept : (w : ℕ) (o : Outbound) (g : Drive) → OutboundIn (shape.Word w) o → openingSd ≤ o .opening → (x : Offer) → Fits (shape.Word w) x
+    → Kept (shape.Word w) (writesWord w o g x)
+unfolding hasUnit wordFits
+word-kept w o g i past offer.Nothing fits = given-kept (shape.Word w) o g i (o .opening) (omega arith) (i .opening)
+word-kept w o g i past (offer.Unit u) fits =
+    record {
+      opening = i .opening;
+      due = both (le-leb openingSd (o .opening) past) (lt-ltb (16 * (u / 16)) (2 ^ w) (omega (arith, ltb-true u (2 ^ w) fits)));
+      claim = refl;
+      breaks = i .breaks;
+    }
 
-  due-kept : (d : Half) → Fits (shape.Word w) (g .offer) → Kept (shape.Word w) (writesDue w o g d)
-  due-kept (Holds high) fits = record { opening = i .opening; due = refl; breaks = i .breaks }
-  due-kept Empty fits =
-      by-test (Kept (shape.Word w)) (held (g .flag) (o .bk1) (o .bk2)) (λ t. sd-kept (shape.Word w) o g i (o .opening) (i .opening))
-      (λ t. offer-kept (g .offer) fits)
-
-unit-kept : (f : Form) (o : Outbound) (g : Drive) → OutboundIn (shape.Unit f) o → (u : Offer) → Kept (shape.Unit f) (writesUnit f o g u)
-unit-kept f o g i (offer.Unit u) = record { opening = i .opening; due = refl; breaks = i .breaks }
+unit-kept : (f : Form) (o : Outbound) (g : Drive) → OutboundIn (shape.Unit f) o → (x : Offer) → Kept (shape.Unit f) (writesUnit f o g x)
+unit-kept f o g i (offer.Unit u) = record { opening = i .opening; due = refl; claim = refl; breaks = i .breaks }
 unit-kept f o g i offer.Nothing =
-    by-test (Kept (shape.Unit f)) (pairForm f) (λ t. record { opening = i .opening; due = refl; breaks = i .breaks })
-    (λ t. sd-kept (shape.Unit f) o g i (o .opening) (i .opening))
+    by-test (Kept (shape.Unit f)) (pairForm f)
+    (λ t. record { opening = i .opening; due = refl; claim = same-claim (shape.Unit f) o g i (o .opening) (omega arith); breaks = i .breaks })
+    (λ t. given-kept (shape.Unit f) o g i (o .opening) (omega arith) (i .opening))
+
+-- forms 0 and 6: whoever has a claim
+module _ (s : Shape) (o : Outbound) (g : Drive) (i : OutboundIn s o) (past : openingSd ≤ o .opening) (fits : Fits s (g .offer)) where
+  offer-kept : (t : Shape) → s ≡ t → Kept t (writesOffer t o g (g .offer))
+  offer-kept (shape.Word w) e =
+      word-kept w o g (subst (λ t. OutboundIn t o) e i) past (g .offer) (subst (λ t. Fits t (g .offer)) e fits)
+  offer-kept (shape.Unit f) e = unit-kept f o g (subst (λ t. OutboundIn t o) e i) (g .offer)
+
+  may-claim : hasPair s ≡ false → mayClaim s (o .opening) Empty ≡ true
+  may-claim none = rw (none, le-leb openingSd (o .opening) past) refl
+
+  claim-kept : hasPair s ≡ false → (c : Claim) → Kept s (writesClaim s o g c)
+  claim-kept none (Second leads) = sd-kept s o g i (o .opening) Owed leads (i .opening) (may-claim none)
+  claim-kept none Owed = offer-kept s refl
+  claim-kept none Free =
+      by-test (Kept s) (changed (g .leads) o) (λ t. sd-kept s o g i (o .opening) (Second (g .leads)) (g .leads) (i .opening) (may-claim none))
+      (λ t. offer-kept s refl)
+
+due-kept : (w : ℕ) (o : Outbound) (g : Drive) → OutboundIn (shape.Word w) o → openingSd ≤ o .opening → (d : Half) → Fits (shape.Word w) (g .offer)
+    → Kept (shape.Word w) (writesDue w o g d)
+due-kept w o g i past (Holds high) fits =
+    record { opening = i .opening; due = refl; claim = same-claim (shape.Word w) o g i (o .opening) (omega arith); breaks = i .breaks }
+due-kept w o g i past Empty fits =
+    by-test (Kept (shape.Word w)) (held (g .flag) (o .last .bk) (o .before .bk))
+    (λ t. given-kept (shape.Word w) o g i (o .opening) (omega arith) (i .opening))
+    (λ t. claim-kept (shape.Word w) o g i past fits refl (o .claim))
 
 data-kept : (s : Shape) (o : Outbound) (g : Drive) → OutboundIn s o → openingBytes s ≤ o .opening → Fits s (g .offer)
     → Kept s (writesData s o g)
 unfolding writesData
 data-kept (shape.Word w) o g i past fits = due-kept w o g i past (o .due) fits
-data-kept (shape.Unit f) o g i past fits = unit-kept f o g i (g .offer)
+data-kept (shape.Unit f) o g i past fits =
+    by-test (Kept (shape.Unit f)) (pairForm f) (λ t. unit-kept f o g i (g .offer))
+    (λ t. claim-kept (shape.Unit f) o g i (rw t at past) fits t (o .claim))
 
-next-kept : (s : Shape) (o : Outbound) (g : Drive) → OutboundIn s o → Fits s (g .offer) → Kept s (writing s o g)
+pub next-kept : (s : Shape) (o : Outbound) (g : Drive) → OutboundIn s o → Fits s (g .offer) → Kept s (writing s o g)
 unfolding writing
 next-kept s o g i fits =
     by-test (Kept s) (ltb (o .opening) (openingBytes s)) (λ t. opening-kept s o g i (ltb-true (o .opening) (openingBytes s) t))
     (λ t. data-kept s o g i (ltb-false (o .opening) (openingBytes s) t) fits)
 
-parts : (s : Shape) (o : Outbound) → outboundIn s o ≡ true → OutboundIn s o
+pub parts : (s : Shape) (o : Outbound) → outboundIn s o ≡ true → OutboundIn s o
 unfolding outboundIn
 parts s o e =
     let opening = leb (o .opening) (openingBytes s) in
     let due = dueIn s (o .opening) (o .due) in
-    let breaks = isWord s || not (o .bk1 || o .bk2) in
-    let first = both-left (opening && due) breaks e in
+    let claim = claimIn s (o .opening) (o .due) (o .claim) in
+    let breaks = isWord s || not (o .last .bk || o .before .bk) in
+    let three = both-left (opening && due && claim) breaks e in
+    let two = both-left (opening && due) claim three in
     record {
-      opening = leb-true (o .opening) (openingBytes s) (both-left opening due first);
-      due = both-right opening due first;
-      breaks = both-right (opening && due) breaks e;
+      opening = leb-true (o .opening) (openingBytes s) (both-left opening due two);
+      due = both-right opening due two;
+      claim = both-right (opening && due) claim three;
+      breaks = both-right (opening && due && claim) breaks e;
     }
 
 whole : (s : Shape) (o : Outbound) → OutboundIn s o → outboundIn s o ≡ true
 unfolding outboundIn
-whole s o i = both (both (le-leb (o .opening) (openingBytes s) (i .opening)) (i .due)) (i .breaks)
+whole s o i = both (both (both (le-leb (o .opening) (openingBytes s) (i .opening)) (i .due)) (i .claim)) (i .breaks)
 
 pub writing-kept : (s : Shape) (o : Outbound) (g : Drive) → outboundIn s o ≡ true → Fits s (g .offer)
     → outboundIn s (writing s o g .outbound) ≡ true
@@ -121,7 +186,7 @@ fresh-opens s = by-test (λ n. 0 < n) (hasPair s) (λ t. omega arith) (λ t. ome
 
 fresh-in : (s : Shape) → OutboundIn s (freshLine .outbound)
 unfolding freshLine
-fresh-in s = record { opening = omega (arith, fresh-opens s); due = due-empty s 0; breaks = or-right (isWord s) refl }
+fresh-in s = record { opening = omega (arith, fresh-opens s); due = due-empty s 0; claim = refl; breaks = or-right (isWord s) refl }
 
 pub fresh-outbound : (s : Shape) → outboundIn s (freshLine .outbound) ≡ true
 fresh-outbound s = whole s (freshLine .outbound) (fresh-in s)

@@ -10,6 +10,9 @@ opening-bytes-requires c κs = search needs
 due-in-requires : tie.Need-due-in-requires
 due-in-requires c κs = search needs
 
+claim-in-requires : tie.Need-claim-in-requires
+claim-in-requires c κs = search needs
+
 is-word-requires : tie.Need-is-word-requires
 is-word-requires c κs = search needs
 
@@ -18,10 +21,11 @@ unfolding outboundIn
 returns c =
     simp (
       c .before .is-word .ensures,
-      c .before .before .due-in .ensures,
-      c .before .before .before .before .opening-bytes .ensures .0,
+      c .before .before .claim-in .ensures,
+      c .before .before .before .due-in .ensures,
+      c .before .before .before .before .before .opening-bytes .ensures .0,
     )
 
 pub outbound-in-spec : {M : Type 1} → statement M
 outbound-in-spec =
-    tie.close (tie.spec opening-bytes-requires due-in-requires is-word-requires returns)
+    tie.close (tie.spec opening-bytes-requires due-in-requires claim-in-requires is-word-requires returns)

@@ -14,24 +14,24 @@ all-ones-requires c κs = search needs
 unit-byte-requires : tie.Need-unit-byte-requires
 unit-byte-requires c κs = search needs
 
-sends-requires : tie.Need-sends-requires
-sends-requires c κs = search needs
+writes-requires : tie.Need-writes-requires
+writes-requires c κs = search needs
 
 returns : tie.Need-returns
 unfolding byteSent
 returns c =
     simp (
-      c .sends .ensures,
+      c .writes .ensures,
       c .before .unit-byte .ensures,
       c .before .before .all-ones .ensures,
       sym (c .before .before .before .before .pair-form .ensures) ∙ c .before .before .before .if1 .taken,
     )
 
-writes-sd-requires : tie.Need-writes-sd-requires
-writes-sd-requires c κs = search needs
+writes-given-requires : tie.Need-writes-given-requires
+writes-given-requires c κs = search needs
 
 returns-2 : tie.Need-returns-2
-returns-2 c = simp (c .writes-sd .ensures, sym (c .before .before .pair-form .ensures) ∙ c .before .if1 .left)
+returns-2 c = simp (c .writes-given .ensures, sym (c .before .before .pair-form .ensures) ∙ c .before .if1 .left)
 
 pub fills-spec : {M : Type 1} → statement M
 fills-spec =
@@ -40,7 +40,7 @@ fills-spec =
     pair-form-requires
     all-ones-requires
     unit-byte-requires
-    sends-requires
+    writes-requires
     returns
-    writes-sd-requires
+    writes-given-requires
     returns-2)

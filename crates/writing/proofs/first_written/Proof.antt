@@ -7,8 +7,8 @@ use Rattle.protocol.specs.Opened.{hasPair, freshLine, writing, writesOpening}
 use Rattle.writing.proofs.first_written.Statement.{statement}
 use Rattle.writing.proofs.first_written.Tie as tie
 
-outbound-of-requires : tie.Need-outbound-of-requires
-outbound-of-requires c κs = search needs
+fresh-line-requires : tie.Need-fresh-line-requires
+fresh-line-requires c κs = search needs
 
 writes-sd-requires : tie.Need-writes-sd-requires
 writes-sd-requires c κs = search needs
@@ -20,7 +20,7 @@ before-data false = refl
 
 returns : tie.Need-returns
 unfolding writing writesOpening freshLine
-returns c = simp (c .writes-sd .ensures, c .before .outbound-of .ensures, before-data (hasPair (c .before .before .args .s)))
+returns c = simp (c .writes-sd .ensures, c .before .fresh-line .ensures, before-data (hasPair (c .before .before .args .s)))
 
 pub first-written-spec : {M : Type 1} → statement M
-first-written-spec = tie.close (tie.spec outbound-of-requires writes-sd-requires returns)
+first-written-spec = tie.close (tie.spec fresh-line-requires writes-sd-requires returns)

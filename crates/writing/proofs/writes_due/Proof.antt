@@ -10,21 +10,21 @@ enum-known-due c = search needs
 dh-due-requires : tie.Need-dh-due-requires
 dh-due-requires c κs = search needs
 
-sends-requires : tie.Need-sends-requires
-sends-requires c κs = search needs
+writes-requires : tie.Need-writes-requires
+writes-requires c κs = search needs
 
 enum-told : tie.Need-enum-told
 enum-told c = search needs
 
-writes-free-requires : tie.Need-writes-free-requires
-writes-free-requires c κs = search needs
+writes-broken-requires : tie.Need-writes-broken-requires
+writes-broken-requires c κs = search needs
 
 returns : tie.Need-returns
 unfolding byteSent
-returns c = simp (c .sends .ensures, c .before .dh-due .ensures, c .before .before .before .due .given .1)
+returns c = simp (c .writes .ensures, c .before .dh-due .ensures, c .before .before .before .due .given .1)
 
 returns-2 : tie.Need-returns-2
-returns-2 c = simp (c .writes-free .ensures, c .before .enum-told .given .1)
+returns-2 c = simp (c .writes-broken .ensures, c .before .enum-told .given .1)
 
 pub writes-due-spec : {M : Type 1} → statement M
 writes-due-spec =
@@ -32,8 +32,8 @@ writes-due-spec =
     (tie.spec
     enum-known-due
     dh-due-requires
-    sends-requires
+    writes-requires
     enum-told
-    writes-free-requires
+    writes-broken-requires
     returns
     returns-2)
