@@ -51,6 +51,9 @@ use Rattle.protocol.proofs.Figures.Answering.{AnswerFigures, answer-figures}
 use Rattle.protocol.proofs.Figures.Joining.{PairFigures, pair-figures}
 use Rattle.endpoint.proofs.SaysAll.{outcome-says-all, reply-says-all}
 use Rattle.script.proofs.Samples.{ScriptFigures, script-figures}
+use Rattle.leads.specs.LeadsAhead.{LeadsAhead}
+use Rattle.leads.proofs.LeadsAhead.{leads-ahead}
+use Rattle.leads.proofs.Exact.{Exact, exact}
 use Rattle.claims.proofs.WholeRuns.{WholeRuns, whole-runs}
 
 -- Bytes on the channel, forms of data, the vote and the version.
@@ -149,6 +152,9 @@ pub record EndHeld : Type 0 where
   pub exchange : ExchangeFigures
   pub opened : OpenFigures
   pub leads : LeadsFigures
+  -- what follows from the order of these rules: chattering leads can't stop the data, and steady leads arrive
+  pub ahead : LeadsAhead
+  pub exactly : Exact
   pub refusals : RefusalFigures
   pub answers : AnswerFigures
   -- answers that say the same are the same
@@ -163,6 +169,8 @@ end-held =
       exchange = exchange-figures;
       opened = open-figures;
       leads = leads-figures;
+      ahead = leads-ahead;
+      exactly = exact;
       refusals = refusal-figures;
       answers = answer-figures;
       outcomes = outcome-says-all;

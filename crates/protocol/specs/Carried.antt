@@ -52,15 +52,16 @@ abbrev pub lag : Shape → ℕ
 lag (shape.Word w) = 1
 lag (shape.Unit f) = 0
 
--- the signals that the rule gives over the Sd sent: the last of them, and what stands
+-- the signals that the rule gives over the Sd sent: the last of them and the one before it, and what stands
 pub record Shown : Type 0 where
   pub last : Signals
+  pub before : Signals
   pub standing : Signals
 
 abbrev pub shownKind : Kind → Shown → Shown
 shownKind (Sd s bk) h =
     let now : Signals = record { leads = s; bk = bk } in
-    record { last = now; standing = agreedSignals (h .last) now (h .standing) }
+    record { last = now; before = h .last; standing = agreedSignals (h .last) now (h .standing) }
 shownKind Sgvi h = h
 shownKind (Sgp k) h = h
 shownKind Sgr h = h
@@ -76,5 +77,5 @@ shownNext (Unit f u) h = h
 
 -- over the n slots from slot x on, starting as if two Sdidle had come
 unfoldable pub shownAfter : (ℕ → Sent) → ℕ → Shown
-shownAfter sent zero = record { last = idleSignals; standing = idleSignals }
+shownAfter sent zero = record { last = idleSignals; before = idleSignals; standing = idleSignals }
 shownAfter sent (suc n) = shownNext (sent n) (shownAfter sent n)

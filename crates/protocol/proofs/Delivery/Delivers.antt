@@ -23,6 +23,7 @@ use Rattle.protocol.proofs.Delivery.Stream.{goes, comes, carriedIn, del
 -- The sender e, open for sending from slot x on. What it is given counts from then on, but for an offer in the slot in which it opens.
 pub record SendsFrom (x : ℕ) (s : Shape) (e : Endpoint) (heard : ℕ → ℕ) (given : ℕ → Drive) : Type 0 where
   pub drives : ℕ → Drive
+  pub leads : (n : ℕ) → drives n .leads ≡ given (x + n) .leads
   -- nothing is carried before
   pub quiet : (t : ℕ) → t < x → (takenAt e heard given t ≡ false) × (fill (sentAt e heard given t) ≡ [])
   pub sent : (n : ℕ) → sentAt e heard given (x + n) ≡ goes s drives n .sent

@@ -36,7 +36,7 @@ mirror-step (shape.Unit f) o i h pending g heard m allowed a =
 
 -- it holds of two ends that have just opened
 pub mirror-fresh : (s : Shape) → ((w : ℕ) → s ≡ shape.Word w → w ≤ 8)
-    → Mirror s (freshLine .outbound) (freshLine .inbound) (record { last = idleSignals; standing = idleSignals }) []
+    → Mirror s (freshLine .outbound) (freshLine .inbound) (record { last = idleSignals; before = idleSignals; standing = idleSignals }) []
 unfolding freshLine
 mirror-fresh (shape.Word w) small =
     (small w refl, record { signals = record { last = refl; standing = refl }; last = refl; off = λ p q. refl; unit = none refl refl })

@@ -112,6 +112,7 @@ module _ (e : Endpoint) (heard : ℕ → ℕ) (given : ℕ → Drive) (kept : (t
     sends-after =
         record {
           drives = λ n. given (suc s + n);
+          leads = λ n. refl;
           quiet = λ t l. quiet-before t (omega arith);
           sent = run-sends e heard given kept allowed (suc s) s version i b nibbles values freshLine start;
           carries =
@@ -233,10 +234,15 @@ module _ (e : Endpoint) (heard : ℕ → ℕ) (given : ℕ → Drive) (kept : (t
         run-allowed e heard given kept allowed (suc s) s (x .version) i b noNibbles (x .hearing .values) line start n u
         (subst (λ t. given t .offer ≡ offer.Unit u) z q)
 
+    as-led : (n : ℕ) → firstUnoffered given-from n .leads ≡ given (s + n) .leads
+    as-led zero = refl
+    as-led (suc n) = refl
+
     pub sends-at-once : SendsFrom s as-laid e heard given
     sends-at-once =
         record {
           drives = firstUnoffered given-from;
+          leads = as-led;
           quiet = λ t l. quiet-before t (omega arith);
           sent = as-sent;
           carries = as-carried;

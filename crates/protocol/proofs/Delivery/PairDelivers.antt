@@ -190,12 +190,19 @@ module _ {d : ℕ} (bo ba : Book) {go ga : ℕ → Drive} {ho ha : ℕ → ℕ}
       let z : suc ta + (2 * d - 1) ≡ to + d = omega (arith, p .books .delay) in
       carries-over to d s small atO atA ho ha go ga sends-o (subst (λ y. ReadsFrom y s atA ha ga) z reads-a) (p .toA)
 
+  from-next : SendsFrom (ta + 1) s atA ha ga
+  from-next = let y : suc ta ≡ ta + 1 = omega arith in subst (λ x. SendsFrom x s atA ha ga) y sends-a
+
   from-a : CarriesOver d s (ta + 1) atA ha ga atO ho go
   from-a =
       let z : suc to ≡ ta + 1 + d = omega arith in
-      let y : suc ta ≡ ta + 1 = omega arith in
-      carries-over (ta + 1) d s small atA atO ha ho ga go (subst (λ x. SendsFrom x s atA ha ga) y sends-a)
+      carries-over (ta + 1) d s small atA atO ha ho ga go from-next
       (subst (λ y. ReadsFrom y s atO ho go) z reads-o) (p .toO)
+
+-- both ends, as senders
+pub record BothSend (d : ℕ) (bo ba : Book) (go ga : ℕ → Drive) (ho ha : ℕ → ℕ) : Type 0 where
+  pub fromO : SendsFrom (concludesO (meets d) d bo ba) (shapeOf (entryOf bo 0) (sharedVersion bo ba)) (started bo) ho go
+  pub fromA : SendsFrom (concludesA (meets d) d bo ba + 1) (shapeOf (entryOf bo 0) (sharedVersion bo ba)) (started ba) ha ga
 
 -- what is delivered is what was carried, and that was offered in its place or is fill
 dipstick : {d : ℕ} {s : Shape} {x : ℕ} {sender : Endpoint} {hs : ℕ → ℕ} {gs : ℕ → Drive} {receiver : Endpoint} {hr : ℕ → ℕ} {gr : ℕ → Drive}
@@ -205,18 +212,30 @@ dipstick {sender = sender} {hs} {gs} c t place =
 
 module _ (d : ℕ) (go ga : ℕ → Drive) (ho ha : ℕ → ℕ) where
   carry-by : (bo ba : Book) → JoinedPair d (asO bo) (asA ba) go ga ho ha → eqb (common bo ba) 0 ≡ false → ProfileIn (asO bo) (asA ba)
-      → (m : Match) → matchIn (common bo ba) (ba .entries) (paramsOf (entryOf bo 0)) (ba .n) ≡ m → BothCarry d (asO bo) (asA ba) go ga ho ha
-  carry-by bo ba p shared f (match.Entry i) e = record { fromO = from-o bo ba p shared i e; fromA = from-a bo ba p shared i e }
+      → (m : Match) → matchIn (common bo ba) (ba .entries) (paramsOf (entryOf bo 0)) (ba .n) ≡ m
+      → BothCarry d (asO bo) (asA ba) go ga ho ha × BothSend d (asO bo) (asA ba) go ga ho ha
+  carry-by bo ba p shared f (match.Entry i) e = (
+    record { fromO = from-o bo ba p shared i e; fromA = from-a bo ba p shared i e },
+    record { fromO = sends-o bo ba p shared i e; fromA = from-next bo ba p shared i e },
+  )
   carry-by bo ba p shared f match.Nothing e =
       let z : true ≡ false = sym (f .same) ∙ found-none d bo ba (p .books) shared (f .entry) e (f .below) in
       let w : _≡_ {A = ℕ} 0 1 = cc in
       absurd (omega arith)
 
+  both : (bo ba : Book) → JoinedPair d bo ba go ga ho ha → (sharedVersion bo ba ≡ 0 → ⊥) → ProfileIn bo ba
+      → BothCarry d bo ba go ga ho ha × BothSend d bo ba go ga ho ha
+  both =
+      pair-by-roles d go ga ho ha
+      (λ bo ba. (sharedVersion bo ba ≡ 0 → ⊥) → ProfileIn bo ba → BothCarry d bo ba go ga ho ha × BothSend d bo ba go ga ho ha)
+      (λ bo ba p n f. carry-by bo ba p (ne-eqb (common bo ba) 0 n) f (matchIn (common bo ba) (ba .entries) (paramsOf (entryOf bo 0)) (ba .n)) refl)
+
   -- once both are open, each unit taken is delivered once, in order, unchanged, with nothing between but fill, in both directions
   pub both-carry : (bo ba : Book) → JoinedPair d bo ba go ga ho ha → (sharedVersion bo ba ≡ 0 → ⊥) → ProfileIn bo ba → BothCarry d bo ba go ga ho ha
-  both-carry =
-      pair-by-roles d go ga ho ha (λ bo ba. (sharedVersion bo ba ≡ 0 → ⊥) → ProfileIn bo ba → BothCarry d bo ba go ga ho ha)
-      (λ bo ba p n f. carry-by bo ba p (ne-eqb (common bo ba) 0 n) f (matchIn (common bo ba) (ba .entries) (paramsOf (entryOf bo 0)) (ba .n)) refl)
+  both-carry bo ba p n f = both bo ba p n f .0
+
+  pub both-send : (bo ba : Book) → JoinedPair d bo ba go ga ho ha → (sharedVersion bo ba ≡ 0 → ⊥) → ProfileIn bo ba → BothSend d bo ba go ga ho ha
+  both-send bo ba p n f = both bo ba p n f .1
 
   pub dipsticks : (bo ba : Book) → BothCarry d bo ba go ga ho ha → Dipsticks bo ba go ga ho ha
   dipsticks bo ba c = record { atA = dipstick (c .fromO); atO = dipstick (c .fromA) }

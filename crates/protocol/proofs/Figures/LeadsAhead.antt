@@ -14,7 +14,7 @@ use Rattle.protocol.specs.declared.Claim.{Claim}
 use Rattle.protocol.specs.declared.Claim.the-variants.{Free, Second, Owed}
 use Rattle.protocol.specs.declared.Offer.the-variants as offer
 use Rattle.protocol.specs.declared.Drive.{Drive}
-use Rattle.protocol.proofs.Figures.Rows.{leads, offers, Row, defined, written, row, sent, idleGot}
+use Rattle.protocol.proofs.Figures.Rows.{leads, signals, offers, Row, defined, written, row, sent, idleGot}
 use Rattle.protocol.proofs.Figures.Opening.{On, words, six, seven, eight, at, Sends, sendsEach}
 
 -- Leads by what they are called below: the Sd of idle goes as 43 and that of ready as C3, of chatter as B3.
@@ -122,6 +122,9 @@ inSix =
     ∷ fromOpening (offering chatter, 0xB3, false) (offers 0x21, 0x43, false) (offers 0x21, 0x43, false) 0
     ∷ fromOpening (offers 0x21, 0x43, false) (offering chatter, 0xB3, false) (offers 0x21, 0x43, false) 2
     ∷ fromOpening (offers 0x21, 0x43, false) (offers 0x21, 0x43, false) (offering chatter, 0xB3, false) 2
+    -- leads that are given from a slot on wait 4 slots at most
+    ∷ stands six Empty (Second ready) (leads 0 1 0 0) (leads 0 1 0 0)
+    ((offering chatter, 0xC3, false) ∷ (offering chatter, 0x85, true) ∷ (offering chatter, 0xB3, false) ∷ (offering chatter, 0xB3, false) ∷ [])
     -- the flag is nothing to form 6
     ∷ settled six
     ((flagged ready, 0xC3, false) ∷ (flagged chatter, 0xC3, false) ∷ (flagged chatter, 0x85, true) ∷ (flagged chatter, 0xB3, false) ∷ [])
@@ -182,6 +185,16 @@ inWords =
     ∷ (offering chatter, 0xB3, false)
     ∷ (offering chatter, 0x15, true)
     ∷ [])
+    -- leads that are given from a slot on wait 6 slots at most, the last of the break rule being one of them
+    ∷ row (at (words 8) (outboundOf 16 Empty (Second ready) (signals 0 1 0 0 0) (signals 0 1 0 0 1)) idleGot)
+    (sendsEach (words 8)
+    ((offering chatter, 0xB3, false)
+    ∷ (offering chatter, 0xC3, false)
+    ∷ (offering chatter, 0x15, true)
+    ∷ (offering chatter, 0x2D, false)
+    ∷ (offering chatter, 0xB3, false)
+    ∷ (offering chatter, 0xB3, false)
+    ∷ []))
     -- and after the two, the unit is still owed
     ∷ stands (words 8) Empty Owed (leads 1 1 0 0) (leads 1 1 0 0)
     ((flagged chatter, 0xBB, false)

@@ -1,0 +1,12 @@
+pub mod DataShown
+pub mod Tracked
+pub mod LastTwo
+pub mod OneSlot
+pub mod Running
+pub mod UnitsGo
+pub mod Waiting
+pub mod LeadsOut
+pub mod Settled
+pub mod FarEnd
+pub mod LeadsAhead
+pub mod Exact
