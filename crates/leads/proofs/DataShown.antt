@@ -1,10 +1,9 @@
 -- What carries data is no Sd: it leaves the signals of the Sd sent as they are. Assumes nothing.
 use mathlib.Core.Path.{_≡_, refl, _∙_, ap}
-use Prim.Native.Nat.{ℕ, _*_, _/_, _%_, _^_}
+use Prim.Native.Nat.{ℕ, _*_, _/_, _%_}
 use native.Mathlib.Omega.{arith}
-use Rattle.channel.specs.Bytes.{laid, dlByte, dhByte}
+use Rattle.channel.specs.Bytes.{dlByte, dhByte}
 use Rattle.channel.specs.Kinds.{kindOf}
-use Rattle.channel.specs.declared.kind.Kind.the-variants.{Dl, Dh}
 use Rattle.channel.proofs.ReadBack.{dl-read, dh-read}
 use Rattle.protocol.specs.Sent.{Sent, Alone}
 use Rattle.protocol.specs.Carried.{Shown, shownKind, shownNext}

@@ -2,7 +2,7 @@
 -- Assumes nothing.
 use mathlib.Core.Path.{_≡_, refl}
 use mathlib.Core.Bool.{Bool, true, false}
-use mathlib.Core.List.{List, [], _∷_, map}
+use mathlib.Core.List.{[], _∷_, map}
 use Prim.Native.Nat.{ℕ, _-_}
 use Rattle.channel.specs.declared.byte.Leads.{Leads}
 use Rattle.channel.specs.declared.unit.Form.the-variants.{Six}

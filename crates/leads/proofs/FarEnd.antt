@@ -1,6 +1,6 @@
 -- Leads that are given without a change stand at the far end d slots after they are out, and from then on. Assumes nothing.
 use mathlib.Core.Path.{_≡_, refl, sym, ap, _∙_, subst}
-use mathlib.Core.Bool.{Bool, true, false, not, _&&_}
+use mathlib.Core.Bool.{true, false, not, _&&_}
 use mathlib.Core.Logic.{inr}
 use Prim.Native.Nat.{ℕ, zero, suc, _+_, _-_, _≤_, _<_}
 use native.Mathlib.Nat.{add-zero, add-suc}
@@ -10,9 +10,8 @@ use borrow.Author.Tests.{lt-ltb, leb-true}
 use Rattle.ground.proofs.Test.{both-right}
 use Rattle.book.specs.declared.Book.{Book}
 use Rattle.channel.specs.declared.byte.Leads.{Leads}
-use Rattle.protocol.specs.Sent.{Sent}
 use Rattle.protocol.specs.Exchange.{entryOf}
-use Rattle.protocol.specs.Opened.{Writing, shapeOf, hasPair, openingSd, freshLine, writesOpening, writing}
+use Rattle.protocol.specs.Opened.{shapeOf, hasPair, openingSd, freshLine, writesOpening, writing}
 use Rattle.protocol.specs.Call.{sentAt, standsAt}
 use Rattle.protocol.specs.Pair.{JoinedPair, ProfileIn, sharedVersion}
 use Rattle.protocol.specs.Carried.{Shown, shownNext, shownAfter}
@@ -31,9 +30,8 @@ use Rattle.leads.specs.LeadsAhead.{pastSd, waits, OutTwice, Stands, Lead
 use Rattle.leads.proofs.Tracked.{tracked}
 use Rattle.leads.proofs.LastTwo.{Same, next-same, fresh-same}
 use Rattle.leads.proofs.OneSlot.{Goes, goes-by}
-use Rattle.leads.proofs.Running.{unit-due, same-opening}
+use Rattle.leads.proofs.Running.{same-opening}
 use Rattle.leads.proofs.Waiting.{equal-leads, OutBy, waits-most, out-by}
-use Rattle.leads.proofs.LeadsOut.{range-free}
 use Rattle.leads.proofs.Settled.{shown-agrees, Settled, settled}
 
 first-bytes : (s : Shape) (o : Outbound) (g : Drive) → hasPair s ≡ false → o .opening < openingSd → writing s o g .outbound .opening ≡ o .opening + 1
@@ -72,7 +70,7 @@ module _ (d : ℕ) (s : Shape) (x : ℕ) (sender : Endpoint) (hs : ℕ → ℕ) 
       first-bytes s (o n) (g n) none (omega arith) ∙ (let z : o n .opening + 1 ≡ suc n = omega arith in z)
 
   goes-from : (n : ℕ) → pastSd s (o n) ≡ true → Goes s (o n) (g n) (writing s (o n) (g n))
-  goes-from n p = goes-by (o n) (g n) s p (unit-due s (o n .opening) (o n .due) (in-range n .due))
+  goes-from n p = goes-by (o n) (g n) s p (in-range n)
 
   past-from : (n : ℕ) → pastSd s (o (openingSd + n)) ≡ true
   unfolding outs
@@ -106,7 +104,7 @@ module _ (d : ℕ) (s : Shape) (x : ℕ) (sender : Endpoint) (hs : ℕ → ℕ) 
     found : OutBy leads (λ m. o (k + m)) 0 (waits s)
     unfolding outs
     found =
-        out-by s leads (λ m. o (k + m)) (λ m. g (k + m)) (λ m. rw (add-suc k m) refl) (λ m. goes-from (k + m) (past (k + m) (omega arith))) (λ m. range-free (in-range (k + m)))
+        out-by s leads (λ m. o (k + m)) (λ m. g (k + m)) (λ m. rw (add-suc k m) refl) (λ m. goes-from (k + m) (past (k + m) (omega arith)))
         (waits s) 0 (waits-most s leads (o (k + 0)))
         (λ m l. let z : m ≡ 0 + m = omega arith in subst (λ u. g (k + u) .leads ≡ leads) z (led m (omega arith)))
 

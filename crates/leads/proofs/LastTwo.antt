@@ -10,7 +10,7 @@ use Rattle.book.specs.Kept.{bookOk}
 use Rattle.channel.specs.Kinds.{kindOf}
 use Rattle.protocol.specs.Sent.{Silence}
 use Rattle.protocol.specs.Exchange.{Turn, turn, entryOf}
-use Rattle.protocol.specs.Opened.{Writing, shapeOf, freshLine, writing}
+use Rattle.protocol.specs.Opened.{Writing, shapeOf, freshLine}
 use Rattle.protocol.specs.Ranges.{wellFormed}
 use Rattle.protocol.specs.Slot.{Step, exchangeOf, started, clocked, stepBy, exchangeStep, openStep, step, stepAt, stepOf, offerAllowed, slotStep, slotOf}
 use Rattle.protocol.specs.Call.{endAt, sentAt}
@@ -19,7 +19,6 @@ use Rattle.protocol.specs.declared.Exchange.{Exchange}
 use Rattle.protocol.specs.declared.Fate.{Fate}
 use Rattle.protocol.specs.declared.Fate.the-variants.{Stays, OpensHearing, OpensSending, Refuses}
 use Rattle.protocol.specs.declared.Outbound.{Outbound}
-use Rattle.protocol.specs.declared.Line.{Line}
 use Rattle.protocol.specs.declared.Phase.{Phase}
 use Rattle.protocol.specs.declared.Phase.the-variants.{Exchanging, Open, Refused}
 use Rattle.protocol.specs.declared.Endpoint.{Endpoint}

@@ -1,45 +1,28 @@
 -- Leads that are given from a slot on are out in two Sd within 6 slots in form 0 and 4 in form 6. Assumes nothing.
 use mathlib.Core.Path.{_≡_, refl, sym, ap, _∙_, subst}
-use mathlib.Core.Bool.{Bool, true, false, not, _&&_}
-use Prim.Native.Nat.{ℕ, zero, suc, _+_, _≤_, _<_}
+use mathlib.Core.Bool.{true, not}
+use Prim.Native.Nat.{ℕ, _+_, _≤_, _<_}
 use native.Mathlib.Omega.{arith}
 use lib.Dec.{leb}
 use borrow.Author.Tests.{leb-true}
-use Rattle.ground.proofs.Test.{both-left, both-right}
+use Rattle.ground.proofs.Test.{both-right}
 use Rattle.book.specs.declared.Book.{Book}
 use Rattle.book.specs.Kept.{bookOk}
 use Rattle.channel.specs.declared.byte.Leads.{Leads}
-use Rattle.protocol.specs.Opened.{hasPair, openingSd, writing}
-use Rattle.protocol.specs.Ranges.{noneDue, claimIn}
+use Rattle.protocol.specs.Opened.{hasPair, openingSd}
 use Rattle.protocol.specs.Slot.{started}
 use Rattle.protocol.specs.Call.{endAt, sentAt, Allowed}
-use Rattle.protocol.specs.declared.Half.{Half}
-use Rattle.protocol.specs.declared.Half.the-variants.{Empty, Holds}
 use Rattle.protocol.specs.declared.Shape.{Shape}
-use Rattle.protocol.specs.declared.Claim.{Claim}
-use Rattle.protocol.specs.declared.Claim.the-variants.{Free, Second, Owed}
 use Rattle.protocol.specs.declared.Outbound.{Outbound}
 use Rattle.protocol.specs.declared.Line.{Line}
-use Rattle.protocol.specs.declared.Phase.{Phase}
-use Rattle.protocol.specs.declared.Phase.the-variants.{Exchanging, Open, Refused}
+use Rattle.protocol.specs.declared.Phase.the-variants.{Open}
 use Rattle.protocol.specs.declared.Drive.{Drive}
 use Rattle.protocol.proofs.Kept.StateKept.{call-kept}
-use Rattle.protocol.proofs.Kept.WritingKept.{OutboundIn}
 use Rattle.protocol.proofs.Delivery.OpenRuns.{outs}
-use Rattle.leads.specs.LeadsAhead.{pastSd, afterSd, waits, waitsIn, OutTwice, OutWithin, LeadsGoOut}
-use Rattle.leads.proofs.OneSlot.{clash}
+use Rattle.leads.specs.LeadsAhead.{pastSd, waits, OutWithin, LeadsGoOut}
 use Rattle.leads.proofs.LastTwo.{last-two-kept}
-use Rattle.leads.proofs.Running.{laid, out, runs, in-range, past, goes}
-use Rattle.leads.proofs.Waiting.{equal-leads, Out, OutBy, waits-most, out-by}
-
--- where a DH is due, nobody has a claim
-due-free : (s : Shape) (opening : ℕ) (due : Half) (c : Claim) → claimIn s opening due c ≡ true → noneDue due ≡ false → c ≡ Free
-due-free s opening due Free e n = refl
-due-free s opening due (Second leads) e n = clash (both-right (not (hasPair s) && leb openingSd opening) (noneDue due) e) n
-due-free s opening due Owed e n = clash (both-right (not (hasPair s) && leb openingSd opening) (noneDue due) e) n
-
-pub range-free : {s : Shape} {o : Outbound} → OutboundIn s o → noneDue (o .due) ≡ false → o .claim ≡ Free
-range-free {s} {o} i n = due-free s (o .opening) (o .due) (o .claim) (i .claim) n
+use Rattle.leads.proofs.Running.{laid, out, runs, past, goes}
+use Rattle.leads.proofs.Waiting.{equal-leads, OutBy, waits-most, out-by}
 
 module _ (b : Book) (ok : bookOk b ≡ true) (heard : ℕ → ℕ) (given : ℕ → Drive) (allowed : Allowed (started b) heard given) where
   module _ (t : ℕ) (leads : Leads) (slot version i : ℕ) (line : Line) (q : endAt (started b) heard given t .phase ≡ Open slot version i line) where
@@ -54,7 +37,7 @@ module _ (b : Book) (ok : bookOk b ≡ true) (heard : ℕ → ℕ) (given : ℕ 
       unfolding outs
       found =
           out-by s leads o (λ m. given (t + m)) (λ n. refl) (goes (started b) heard given (call-kept b ok heard given) allowed t slot version i line q p)
-          (λ n. range-free (in-range (started b) heard given (call-kept b ok heard given) allowed t slot version i line q n)) (waits s) 0
+          (waits s) 0
           (waits-most s leads (o 0)) (λ m l. let z : m ≡ 0 + m = omega arith in subst (λ u. given (t + u) .leads ≡ leads) z (steady m l))
 
       -- what the state keeps is what went
@@ -79,11 +62,4 @@ module _ (b : Book) (ok : bookOk b ≡ true) (heard : ℕ → ℕ) (given : ℕ 
           }
 
   pub leads-go-out : LeadsGoOut (started b) heard given
-  leads-go-out t leads = go (endAt (started b) heard given t .phase) refl
-    where
-      go : (p : Phase) → endAt (started b) heard given t .phase ≡ p → afterSd (endAt (started b) heard given t) p ≡ true
-          → ((m : ℕ) → m < waitsIn (endAt (started b) heard given t) p → given (t + m) .leads ≡ leads)
-          → OutWithin (sentAt (started b) heard given) leads t (waitsIn (endAt (started b) heard given t) p)
-      go (Exchanging slot version a s) q p steady = clash p refl
-      go (Open slot version i line) q p steady = out-in-two t leads slot version i line q p steady
-      go (Refused number slot) q p steady = clash p refl
+  leads-go-out t slot version i line leads q p steady = out-in-two t leads slot version i line q p steady

@@ -1,19 +1,13 @@
 -- An open end in form 0 or 6, from a slot after its first 16 Sd on: slot by slot it goes by the rules. Assumes nothing.
-use mathlib.Core.Path.{_≡_, refl, sym, ap, _∙_, subst}
-use mathlib.Core.Bool.{Bool, true, false, not, _&&_}
-use mathlib.Core.List.{List}
+use mathlib.Core.Path.{_≡_, refl, ap, _∙_, subst}
+use mathlib.Core.Bool.{true, not, _&&_}
 use Prim.Native.Nat.{ℕ, zero, suc, _+_}
-use native.Mathlib.Omega.{arith}
 use lib.Dec.{leb}
-use Rattle.book.specs.declared.Book.{Book}
 use Rattle.protocol.specs.Exchange.{entryOf}
-use Rattle.protocol.specs.Opened.{Writing, shapeOf, isWord, hasPair, openingSd, writing}
-use Rattle.protocol.specs.Ranges.{dueIn, outboundIn, wellFormed}
+use Rattle.protocol.specs.Opened.{Writing, shapeOf, hasPair, openingSd, writing}
+use Rattle.protocol.specs.Ranges.{wellFormed}
 use Rattle.protocol.specs.Call.{endAt, sentAt, takenAt, Allowed}
-use Rattle.protocol.specs.declared.Half.{Half}
-use Rattle.protocol.specs.declared.Half.the-variants.{Empty, Holds}
 use Rattle.protocol.specs.declared.Shape.{Shape}
-use Rattle.protocol.specs.declared.Shape.the-variants as shape
 use Rattle.protocol.specs.declared.Outbound.{Outbound}
 use Rattle.protocol.specs.declared.Line.{Line}
 use Rattle.protocol.specs.declared.Phase.the-variants.{Open}
@@ -21,18 +15,12 @@ use Rattle.protocol.specs.declared.Endpoint.{Endpoint}
 use Rattle.protocol.specs.declared.Drive.{Drive}
 use Rattle.protocol.proofs.Kept.WritingKept.{OutboundIn, parts}
 use Rattle.protocol.proofs.Kept.StateKept.{phase-in, open-parts}
-use Rattle.protocol.proofs.Delivery.OpenRuns.{outs, inn, opened, open-run, run-sends, run-takes}
+use Rattle.protocol.proofs.Delivery.OpenRuns.{outs, opened, open-run, run-sends, run-takes}
 use Rattle.leads.specs.LeadsAhead.{pastSd, asks, asksAt}
 use Rattle.leads.proofs.OneSlot.{Goes, high, broken, second, first, takes, idles, goes-by}
 
--- in form 6 no DH is ever due
-pub unit-due : (s : Shape) (opening : ℕ) (d : Half) → dueIn s opening d ≡ true → isWord s ≡ false → d ≡ Empty
-unit-due s opening Empty e u = refl
-unit-due (shape.Word w) opening (Holds h) e u = cc
-unit-due (shape.Unit f) opening (Holds h) e u = cc
-
 pub same-opening : {s : Shape} {o : Outbound} {g : Drive} {w : Writing} → Goes s o g w → w .outbound .opening ≡ o .opening
-same-opening (high d sent y) = refl
+same-opening (high d c sent y) = refl
 same-opening (broken w d h) = refl
 same-opening (second leads f c) = refl
 same-opening (first f c x) = refl
@@ -72,7 +60,7 @@ module _ (e : Endpoint) (heard : ℕ → ℕ) (given : ℕ → Drive) (kept : (t
 
   module _ (p : pastSd laid (line .outbound) ≡ true) where
     goes-from : (n : ℕ) → pastSd laid (out n) ≡ true → Goes laid (out n) (given (a + n)) (writing laid (out n) (given (a + n)))
-    goes-from n x = goes-by (out n) (given (a + n)) laid x (unit-due laid (out n .opening) (out n .due) (in-range n .due))
+    goes-from n x = goes-by (out n) (given (a + n)) laid x (in-range n)
 
     pub past : (n : ℕ) → pastSd laid (out n) ≡ true
     unfolding outs

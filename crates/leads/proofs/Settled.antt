@@ -1,11 +1,9 @@
 -- Leads that stand at the far end stand on while they are given: of the Sd that go after, one at most has others. Assumes nothing.
 use mathlib.Core.Path.{_≡_, refl, sym, ap, _∙_, subst}
-use mathlib.Core.Bool.{Bool, true, false, Bool·beq}
-use mathlib.Core.List.{List}
+use mathlib.Core.Bool.{Bool, true, false}
 use mathlib.Core.Logic.{_⊎_, inl, inr}
 use Prim.Native.Nat.{ℕ, zero, suc}
 use native.Mathlib.Omega.{arith}
-use Rattle.ground.proofs.Test.{either-way, by-test}
 use Rattle.channel.specs.declared.byte.Leads.{Leads}
 use Rattle.channel.specs.declared.kind.Kind.{Kind}
 use Rattle.channel.specs.declared.kind.Kind.the-variants.{Sgvi, Sgp, Sgr, Dl, Dh, Sd, Other}
@@ -126,7 +124,7 @@ module _ (s : Shape) (l : Leads) (o : Outbound) (g : Drive) (h : Shown) (e : g .
       go (inr y) = leads-last l (h .last) _ (h .standing) (k .standing) y
 
   pub settled : {w : Writing} → Goes s o g w → Settled l (w .outbound) (shownNext (w .sent) h)
-  settled (high d sent y) = subst (Settled l _) (sym (y h)) (record { standing = k .standing; claim = k .claim })
+  settled (high d c sent y) = subst (Settled l _) (sym (y h)) (record { standing = k .standing; claim = λ m r. no-claim r refl })
   settled (broken w d x) = given-settled _
   settled (second m f c) = second-settled m _ refl (k .claim m c)
   settled (first f c x) = given-settled _

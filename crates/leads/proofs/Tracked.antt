@@ -7,13 +7,11 @@ use native.Mathlib.Omega.{arith}
 use lib.Dec.{eqb, ltb}
 use borrow.Author.Tests.{ltb-false}
 use Rattle.ground.proofs.Test.{by-test, either-way}
-use Rattle.channel.specs.Bytes.{sdByte}
-use Rattle.channel.specs.Kinds.{kindOf}
 use Rattle.channel.specs.declared.byte.Leads.{Leads}
 use Rattle.channel.specs.declared.unit.Form.{Form}
 use Rattle.channel.proofs.ReadBack.{sd-read}
-use Rattle.protocol.specs.Sent.{Sent, Alone}
-use Rattle.protocol.specs.Opened.{Writing, pairForm, hasPair, openingSd, openingBytes, bkSent, writes, writesSd, writesOpening, writesWord, writesUnit, writesOffer, changed, writesClaim, held, writesDue, writesData, writing}
+use Rattle.protocol.specs.Sent.{Alone}
+use Rattle.protocol.specs.Opened.{Writing, pairForm, hasPair, openingSd, openingBytes, bkSent, writesSd, writesOpening, writesWord, writesUnit, writesOffer, changed, writesClaim, held, writesDue, writesData, writing}
 use Rattle.protocol.specs.Carried.{Shown, shownKind, shownNext}
 use Rattle.protocol.specs.declared.Half.{Half}
 use Rattle.protocol.specs.declared.Half.the-variants.{Empty, Holds}
@@ -47,7 +45,7 @@ module _ (o : Outbound) (g : Drive) (h : Shown) where
   opening-tracked : (s : Shape) → Tracked o h (writesOpening s o g)
   unfolding writesOpening
   opening-tracked s =
-      by-test (Tracked o h) (ltb (o .opening) openingSd) (λ t. sd-tracked s (o .opening + 1) (o .claim) (g .leads) (omega arith))
+      by-test (Tracked o h) (ltb (o .opening) openingSd) (λ t. sd-tracked s (o .opening + 1) Free (g .leads) (omega arith))
       (λ t. other (pair-shown (eqb (o .opening) openingSd)) refl refl (ltb-false (o .opening) openingSd t))
 
   -- after the first 16 Sd

@@ -1,16 +1,15 @@
 -- Chattering leads can't stop the data: a slot that takes no unit, though one is offered and nothing else comes first, brings it nearer.
 -- Assumes nothing.
 use mathlib.Core.Path.{_≡_, refl, sym, ap, _∙_, subst}
-use mathlib.Core.Bool.{Bool, true, false, not, _&&_}
+use mathlib.Core.Bool.{true, _&&_}
 use mathlib.Core.Logic.{_⊎_, inl, inr}
 use Prim.Native.Nat.{ℕ, zero, suc, _+_, _-_, _≤_, _<_}
 use native.Mathlib.Nat.{add-zero, add-suc}
 use native.Mathlib.Decide.{decLt}
 use native.Mathlib.Omega.{arith}
-use lib.Dec.{leb}
 use Rattle.ground.proofs.Test.{both-left, both-right}
 use Rattle.protocol.specs.Exchange.{entryOf}
-use Rattle.protocol.specs.Opened.{Writing, shapeOf, isWord, hasPair, openingSd, held, writing}
+use Rattle.protocol.specs.Opened.{Writing, shapeOf, writing}
 use Rattle.protocol.specs.Ranges.{noneDue, wellFormed}
 use Rattle.protocol.specs.Call.{endAt, takenAt, Allowed}
 use Rattle.protocol.specs.declared.Shape.{Shape}
@@ -21,7 +20,6 @@ use Rattle.protocol.specs.declared.Line.{Line}
 use Rattle.protocol.specs.declared.Phase.{Phase}
 use Rattle.protocol.specs.declared.Phase.the-variants.{Exchanging, Open, Refused}
 use Rattle.protocol.specs.declared.Endpoint.{Endpoint}
-use Rattle.protocol.specs.declared.Offer.the-variants as offer
 use Rattle.protocol.specs.declared.Drive.{Drive}
 use Rattle.protocol.proofs.Delivery.OpenRuns.{outs}
 use Rattle.leads.specs.LeadsAhead.{pastSd, isOffered, isFree, asks, asksIn, asksAt, TakenFrom, DataGoes}
@@ -52,7 +50,7 @@ free-clear : {s : Shape} {o : Outbound} {g : Drive} → Clear s o g → isFree s
 free-clear c = rw (c .none, c .rule) refl
 
 nearer : {s : Shape} {o : Outbound} {g : Drive} {w : Writing} → Goes s o g w → Takes s o g w ⊎ Nearer s o g w
-nearer {s} {o} {g} (high d sent y) = inr (omega arith, λ f x. clash (both-left (noneDue (o .due)) _ f) d)
+nearer {s} {o} {g} (high d c sent y) = inr (rw c (omega arith), λ f x. clash (both-left (noneDue (o .due)) _ f) d)
 nearer {s} {o} {g} (broken w d h) =
     inr (omega arith, λ f x. clash (both-right (noneDue (o .due)) _ f) (rw (w, h) refl))
 nearer {o = o} (second leads f c) = inr (rw c (omega arith), λ x y. rw c (omega arith))

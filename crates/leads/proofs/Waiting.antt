@@ -1,17 +1,16 @@
 -- Leads that are given without a change are in the last two Sd after so many slots at most: each slot brings them nearer. Assumes nothing.
-use mathlib.Core.Path.{_≡_, refl, sym, ap, _∙_, subst}
+use mathlib.Core.Path.{_≡_, refl, sym, subst}
 use mathlib.Core.Bool.{Bool, true, false, cond, not, _&&_, Bool·beq}
 use mathlib.Core.Logic.{_⊎_, inl, inr}
 use Prim.Native.Nat.{ℕ, zero, suc, _+_, _≤_, _<_}
-use native.Mathlib.Nat.{add-zero, add-suc}
+use native.Mathlib.Nat.{add-zero}
 use native.Mathlib.Omega.{arith}
 use borrow.Author.Tests.{not-false}
 use Rattle.ground.proofs.Test.{by-test, both-left, both-right}
 use Rattle.channel.specs.declared.byte.Leads.{Leads}
 use Rattle.protocol.specs.Opened.{Writing, isWord, sameLeads, changed, writesSd, writesGiven, writing}
 use Rattle.protocol.specs.Ranges.{noneDue}
-use Rattle.protocol.specs.declared.Half.{Half}
-use Rattle.protocol.specs.declared.Half.the-variants.{Empty, Holds}
+use Rattle.protocol.specs.declared.Half.the-variants.{Empty}
 use Rattle.protocol.specs.declared.Shape.{Shape}
 use Rattle.protocol.specs.declared.Shape.the-variants as shape
 use Rattle.protocol.specs.declared.Claim.{Claim}
@@ -19,7 +18,7 @@ use Rattle.protocol.specs.declared.Claim.the-variants.{Free, Second, Owed}
 use Rattle.protocol.specs.declared.Outbound.{Outbound}
 use Rattle.protocol.specs.declared.Drive.{Drive}
 use Rattle.leads.specs.LeadsAhead.{waits}
-use Rattle.leads.proofs.OneSlot.{clash, Gives, Goes, high, broken, second, first, takes, idles}
+use Rattle.leads.proofs.OneSlot.{Goes, high, broken, second, first, takes, idles}
 
 -- Leads that are the same.
 
@@ -98,9 +97,9 @@ waits-most (shape.Unit f) l o = most 0 l (noneDue (o .due)) (o .claim) (sameLead
 
 -- What a slot does to that.
 
-due-less : (x : ℕ) (l : Leads) (c d : Claim) (a : Bool) → d ≡ Free → leftAt x l true d a < leftAt x l false c a
-due-less x l c d true e = rw e (omega arith)
-due-less x l c d false e = rw e (omega arith)
+due-less : (x : ℕ) (l : Leads) (c : Claim) (a : Bool) → leftAt x l true Free a < leftAt x l false c a
+due-less x l c true = omega arith
+due-less x l c false = omega arith
 
 broken-less : (l : Leads) (c : Claim) → leftAt 1 l true c true < leftAt 1 l true c false
 broken-less l Free = omega arith
@@ -143,27 +142,27 @@ module _ (s : Shape) (l : Leads) (o : Outbound) (g : Drive) (e : g .leads ≡ l)
       go true x = inl (record { last = rw p now-same; before = rw q x })
       go false x = inr (rw (d, f, p, now-same, x) less)
 
-  -- a slot, whichever rule decides it; a DH is due only where nobody has a claim
-  less : {w : Writing} → (noneDue (o .due) ≡ false → o .claim ≡ Free) → Goes s o g w → Out l o ⊎ Less w
-  less free (high d sent y) =
-      inr (inr (rw d (due-less (longer s) l (o .claim) (o .claim) (sameLeads l (o .last .leads)) (free d))))
-  less free (broken w d h) =
+  -- a slot, whichever rule decides it
+  less : {w : Writing} → Goes s o g w → Out l o ⊎ Less w
+  less (high d c sent y) =
+      inr (inr (rw d (due-less (longer s) l (o .claim) (sameLeads l (o .last .leads)))))
+  less (broken w d h) =
       let x : longer s ≡ 1 = rw w refl in
       inr (given-less (writesGiven s o g) refl refl d refl (rw x (broken-less l (o .claim))))
-  less free (second m f c) = inr (go (sameLeads l m) (sameLeads l (o .last .leads)) refl refl)
+  less (second m f c) = inr (go (sameLeads l m) (sameLeads l (o .last .leads)) refl refl)
     where
       go : (b a : Bool) → sameLeads l m ≡ b → sameLeads l (o .last .leads) ≡ a → Less (writesSd s o (o .opening) Owed m g)
       go true true x y = inl (record { last = x; before = y })
       go true false x y = inr (rw (f .none, c, x, y) (omega arith))
       go false true x y = inr (rw (f .none, c, x, y) (omega arith))
       go false false x y = inr (rw (f .none, c, x, y) (omega arith))
-  less free (first f c x) =
+  less (first f c x) =
       inr (given-less (writesSd s o (o .opening) (Second (g .leads)) (g .leads) g) refl refl (f .none) refl (rw (c, now-same) (omega arith)))
-  less free (takes f (inl c) u q due n sent x) =
+  less (takes f (inl c) u q due n sent x) =
       inr (inr (rw (f .none, c) (takes-less (longer s) l (isWord s) (noneDue due) (sameLeads l (o .last .leads)) n refl)))
-  less free (takes f (inr c) u q due n sent x) = inl (given-out l o g e (c .1))
-  less free (idles f (inl c) q) = inr (given-less (writesGiven s o g) refl refl (f .none) refl (rw c (omega arith)))
-  less free (idles f (inr c) q) = inl (given-out l o g e (c .1))
+  less (takes f (inr c) u q due n sent x) = inl (given-out l o g e (c .1))
+  less (idles f (inl c) q) = inr (given-less (writesGiven s o g) refl refl (f .none) refl (rw c (omega arith)))
+  less (idles f (inr c) q) = inl (given-out l o g e (c .1))
 
 -- Slot by slot, from slot n on.
 
@@ -173,12 +172,12 @@ pub record OutBy (l : Leads) (o : ℕ → Outbound) (n k : ℕ) : Type 0 where
   pub out : Out l (o (n + slots))
 
 module _ (s : Shape) (l : Leads) (o : ℕ → Outbound) (g : ℕ → Drive) (next : (n : ℕ) → o (suc n) ≡ writing s (o n) (g n) .outbound)
-    (goes : (n : ℕ) → Goes s (o n) (g n) (writing s (o n) (g n))) (free : (n : ℕ) → noneDue (o n .due) ≡ false → o n .claim ≡ Free) where
+    (goes : (n : ℕ) → Goes s (o n) (g n) (writing s (o n) (g n))) where
   pub out-by : (k n : ℕ) → left s l (o n) ≤ k → ((m : ℕ) → m < k → g (n + m) .leads ≡ l) → OutBy l o n k
   out-by zero n h given =
       absurd (omega (arith, least (longer s) l (noneDue (o n .due)) (o n .claim) (sameLeads l (o n .last .leads))))
   out-by (suc k) n h given =
-      go (less s l (o n) (g n) (subst (λ m. g m .leads ≡ l) (add-zero n) (given 0 (omega arith))) (free n) (goes n))
+      go (less s l (o n) (g n) (subst (λ m. g m .leads ≡ l) (add-zero n) (given 0 (omega arith))) (goes n))
       (λ x. out-by k (suc n) x (λ m i. let z : n + suc m ≡ suc n + m = omega arith in subst (λ t. g t .leads ≡ l) z (given (suc m) (omega arith))))
     where
       go : Out l (o n) ⊎ (Out l (writing s (o n) (g n) .outbound) ⊎ (left s l (writing s (o n) (g n) .outbound) < left s l (o n)))

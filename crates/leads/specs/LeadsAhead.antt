@@ -34,11 +34,6 @@ use Rattle.protocol.specs.declared.Drive.{Drive}
 abbrev pub pastSd : Shape → Outbound → Bool
 pastSd s o = not (hasPair s) && leb openingSd (o .opening)
 
-abbrev pub afterSd : Endpoint → Phase → Bool
-afterSd e (Exchanging slot version a s) = false
-afterSd e (Open slot version i line) = pastSd (shapeOf (entryOf (e .book) i) version) (line .outbound)
-afterSd e (Refused number slot) = false
-
 -- such a slot that is free of the break rule and of a DH due, and in which a unit is offered
 abbrev pub isOffered : Offer → Bool
 isOffered offer.Nothing = false
@@ -94,11 +89,6 @@ abbrev pub waits : Shape → ℕ
 waits (shape.Word w) = 6
 waits (shape.Unit f) = 4
 
-abbrev pub waitsIn : Endpoint → Phase → ℕ
-waitsIn e (Exchanging slot version a s) = 0
-waitsIn e (Open slot version i line) = waits (shapeOf (entryOf (e .book) i) version)
-waitsIn e (Refused number slot) = 0
-
 -- the leads are out: the last two Sd of the n slots have them
 pub record OutTwice (sent : ℕ → Sent) (leads : Leads) (n : ℕ) : Type 0 where
   pub last : shownAfter sent n .last .leads ≡ leads
@@ -113,9 +103,10 @@ pub record OutWithin (sent : ℕ → Sent) (leads : Leads) (t most : ℕ) : Type
 -- leads that are given from slot t on, and no others while they have to wait, however many units are offered
 abbrev pub LeadsGoOut : Endpoint → (ℕ → ℕ) → (ℕ → Drive) → Type 0
 LeadsGoOut e heard given =
-    (t : ℕ) (leads : Leads) → afterSd (endAt e heard given t) (endAt e heard given t .phase) ≡ true
-    → ((m : ℕ) → m < waitsIn (endAt e heard given t) (endAt e heard given t .phase) → given (t + m) .leads ≡ leads)
-    → OutWithin (sentAt e heard given) leads t (waitsIn (endAt e heard given t) (endAt e heard given t .phase))
+    (t slot version i : ℕ) (line : Line) (leads : Leads) → endAt e heard given t .phase ≡ Open slot version i line
+    → pastSd (shapeOf (entryOf (endAt e heard given t .book) i) version) (line .outbound) ≡ true
+    → ((m : ℕ) → m < waits (shapeOf (entryOf (endAt e heard given t .book) i) version) → given (t + m) .leads ≡ leads)
+    → OutWithin (sentAt e heard given) leads t (waits (shapeOf (entryOf (endAt e heard given t .book) i) version))
 
 -- At the far end. The sender sends as an open end from slot x on; from slot t on it is given these leads for n slots: they are out within
 -- the slots that they have to wait, and stand at the far end from d slots later on until d slots after the last of the n.

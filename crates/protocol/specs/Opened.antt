@@ -79,11 +79,7 @@ inboundOf half pair last standing = record { half = half; pair = pair; last = la
 
 -- at the opening nothing has gone, and it is as if two Sdidle had gone and two had come
 unfoldable pub freshLine : Line
-freshLine =
-    record {
-      outbound = outboundOf 0 Empty Free idleSignals idleSignals;
-      inbound = inboundOf Empty 0 idleSignals idleSignals;
-    }
+freshLine = record { outbound = outboundOf 0 Empty Free idleSignals idleSignals; inbound = inboundOf Empty 0 idleSignals idleSignals }
 
 -- Receiving.
 
@@ -198,16 +194,15 @@ writesSd s o opening claim leads g =
       taken = false;
     }
 
--- a byte that is no Sd
-abbrev pub writes : Outbound → ℕ → Half → Claim → Sent → Bool → Writing
-writes o opening due claim sent taken =
-    record { outbound = outboundOf opening due claim (o .last) (o .before); sent = sent; taken = taken }
+-- a byte that is no Sd: nobody has a claim on the line after it
+abbrev pub writes : Outbound → ℕ → Half → Sent → Bool → Writing
+writes o opening due sent taken = record { outbound = outboundOf opening due Free (o .last) (o .before); sent = sent; taken = taken }
 
 -- the first bytes: 16 Sd with the leads given, then in forms 7 and 8 the pair 05 0D
 unfoldable pub writesOpening : Shape → Outbound → Drive → Writing
 writesOpening s o g =
-    cond (ltb (o .opening) openingSd) (writesSd s o (o .opening + 1) (o .claim) (g .leads) g)
-    (writes o (o .opening + 1) Empty (o .claim) (Alone (cond (eqb (o .opening) openingSd) 0x05 0x0D)) false)
+    cond (ltb (o .opening) openingSd) (writesSd s o (o .opening + 1) Free (g .leads) g)
+    (writes o (o .opening + 1) Empty (Alone (cond (eqb (o .opening) openingSd) 0x05 0x0D)) false)
 
 -- After the first bytes, in forms 0 and 6 the first of six rules that applies; they stand here from the last to the first.
 
@@ -218,20 +213,19 @@ writesGiven s o g = writesSd s o (o .opening) (o .claim) (g .leads) g
 -- 5: an offered unit is taken, and none is owed the line any more; in form 0 its DH is due then
 abbrev pub writesWord : ℕ → Outbound → Drive → Offer → Writing
 writesWord w o g offer.Nothing = writesGiven (shape.Word w) o g
-writesWord w o g (offer.Unit u) = writes o (o .opening) (Holds (u / 16)) Free (Alone (dlByte u)) true
+writesWord w o g (offer.Unit u) = writes o (o .opening) (Holds (u / 16)) (Alone (dlByte u)) true
 
 -- forms 6, 7 and 8; with none taken form 6 sends Sd, forms 7 and 8 the unit of all ones
 abbrev pub writesUnit : Form → Outbound → Drive → Offer → Writing
-writesUnit f o g (offer.Unit u) = writes o (o .opening) Empty Free (Unit f u) true
+writesUnit f o g (offer.Unit u) = writes o (o .opening) Empty (Unit f u) true
 writesUnit f o g offer.Nothing =
-    cond (pairForm f) (writes o (o .opening) Empty (o .claim) (Unit f (unitsOf f - 1)) false) (writesGiven (shape.Unit f) o g)
+    cond (pairForm f) (writes o (o .opening) Empty (Unit f (unitsOf f - 1)) false) (writesGiven (shape.Unit f) o g)
 
 abbrev pub writesOffer : Shape → Outbound → Drive → Offer → Writing
 writesOffer (shape.Word w) o g x = writesWord w o g x
 writesOffer (shape.Unit f) o g x = writesUnit f o g x
 
--- 4: no unit is owed the line, and the leads given differ from those in either of the last two Sd sent: an Sd with the leads given, and a
--- second is due; whether or not a unit is offered
+-- the leads given differ from those in either of the last two Sd sent
 abbrev pub sameLeads : Leads → Leads → Bool
 sameLeads a b = Bool·beq (a .s0) (b .s0) && Bool·beq (a .s1) (b .s1) && Bool·beq (a .s2) (b .s2) && Bool·beq (a .s3) (b .s3)
 
@@ -239,6 +233,7 @@ abbrev pub changed : Leads → Outbound → Bool
 changed leads o = not (sameLeads leads (o .last .leads) && sameLeads leads (o .before .leads))
 
 -- 3: a second Sd due repeats the leads of the first of the two; after it one offered unit is owed the line
+-- 4: no unit is owed the line, and the leads differ so: an Sd with the leads given, and a second is due, whether or not a unit is offered
 abbrev pub writesClaim : Shape → Outbound → Drive → Claim → Writing
 writesClaim s o g (Second leads) = writesSd s o (o .opening) Owed leads g
 writesClaim s o g Owed = writesOffer s o g (g .offer)
@@ -251,7 +246,7 @@ held flag bk1 bk2 = flag || (bk1 || bk2)
 
 -- 1, form 0: a DH due
 abbrev pub writesDue : ℕ → Outbound → Drive → Half → Writing
-writesDue w o g (Holds high) = writes o (o .opening) Empty (o .claim) (Alone (dhByte (16 * high))) false
+writesDue w o g (Holds high) = writes o (o .opening) Empty (Alone (dhByte (16 * high))) false
 writesDue w o g Empty =
     cond (held (g .flag) (o .last .bk) (o .before .bk)) (writesGiven (shape.Word w) o g) (writesClaim (shape.Word w) o g (o .claim))
 

@@ -21,6 +21,7 @@ use text::hex;
 use text::word;
 
 mod books;
+mod leads;
 
 // No open file has this number.
 const CLOSED: i32 = -1;
@@ -66,7 +67,7 @@ fn show_02(sample: &[u8], came: Text, says: &[u8]) -> bool {
     begun(sample) && put_text(came) && ended(b"02 says:\n", says)
 }
 
-fn sent(r: Reply) -> u8 {
+pub(crate) fn sent(r: Reply) -> u8 {
     match r {
         Reply::Refused(_) => 0,
         Reply::Passed {
@@ -222,6 +223,30 @@ fn left_out() -> bool {
         )
 }
 
+// #104: two Sd go before the next unit, and then one unit before leads may go again.
+fn leads_ahead() -> bool {
+    show_02(
+        b"form 6, a unit offered in every slot, DTR drops in the third",
+        leads::sends(6, 0, &leads::DROPS),
+        b"two Sd, 43, before the next unit, 85\n",
+    )
+        && show_02(
+            b"form 0, words of 8 bits, the same",
+            leads::sends(0, 8, &leads::DROPS),
+            b"two Sd, 43, before the next word, 15 2D\n",
+        )
+        && show_02(
+            b"form 6, the same, but DTR chatters",
+            leads::sends(6, 0, &leads::CHATTERS),
+            b"the second Sd repeats the first, and then a unit is taken\n",
+        )
+        && show_02(
+            b"form 7, the same",
+            leads::sends(7, 0, &leads::CHATTERS),
+            b"nothing changes: the pair, and then units\n",
+        )
+}
+
 fn closed_input() -> bool {
     if !begun(b"a program whose input is closed") {
         return false;
@@ -259,6 +284,7 @@ fn main() {
         && examples()
         && eights()
         && left_out()
+        && leads_ahead()
         && closed_input()
         && closed_output();
     if !whole {

@@ -6,14 +6,14 @@ use Rattle.channel.specs.Bytes.{byte}
 use Rattle.protocol.specs.Sent.{byteSent}
 use Rattle.protocol.specs.Opened.{Writing, outboundOf}
 use Rattle.protocol.specs.declared.Half.{Half}
-use Rattle.protocol.specs.declared.Claim.{Claim}
+use Rattle.protocol.specs.declared.Claim.the-variants.{Free}
 use Rattle.protocol.specs.declared.Outbound.{Outbound}
 use Rattle.writing.specs.declared.WritingMade.{WritingMade}
 
 abbrev pub writingMade : Writing → WritingMade
 writingMade w = record { outbound = w .outbound; sent = byte (byteSent (w .sent)); taken = w .taken }
 
--- a byte that is no Sd leaves the last two Sd as they are
-abbrev pub sendingByte : Outbound → ℕ → Half → Claim → ChannelByte → Bool → WritingMade
-sendingByte o opening due claim sent taken =
-    record { outbound = outboundOf opening due claim (o .last) (o .before); sent = sent; taken = taken }
+-- a byte that is no Sd leaves the last two Sd as they are, and nobody with a claim on the line
+abbrev pub sendingByte : Outbound → ℕ → Half → ChannelByte → Bool → WritingMade
+sendingByte o opening due sent taken =
+    record { outbound = outboundOf opening due Free (o .last) (o .before); sent = sent; taken = taken }

@@ -61,23 +61,23 @@ fn writes_sd(
     }
 }
 
-// A byte that is no Sd leaves the last two Sd as they are.
-fn writes(
-    o: Outbound,
-    opening: u8,
-    due: Half,
-    claim: Claim,
-    sent: ChannelByte,
-    taken: bool,
-) -> WritingMade
-    ensures { λ r. ⌜ r ≡ sendingByte o opening due claim sent taken ⌝ }
+// A byte that is no Sd leaves the last two Sd as they are, and nobody with a claim on the line.
+fn writes(o: Outbound, opening: u8, due: Half, sent: ChannelByte, taken: bool) -> WritingMade
+    ensures { λ r. ⌜ r ≡ sendingByte o opening due sent taken ⌝ }
 {
-    let outbound = outbound_of(opening, due, claim, o.last, o.before);
+    let outbound = outbound_of(opening, due, Claim::Free, o.last, o.before);
     WritingMade {
         outbound,
         sent,
         taken,
     }
+}
+
+// After the first bytes, a byte that leaves no DH due.
+fn sends(o: Outbound, sent: ChannelByte, taken: bool) -> WritingMade
+    ensures { λ r. ⌜ r ≡ sendingByte o (o .opening) Half.Empty sent taken ⌝ }
+{
+    writes(o, o.opening, Half::Empty, sent, taken)
 }
 
 // The pair 05 0D.
@@ -105,14 +105,7 @@ fn writes_word(w: u8, o: Outbound, g: Drive, offer: Offer) -> WritingMade
 {
     match offer {
         Offer::Nothing => writes_given(Shape::Word(w), o, g),
-        Offer::Unit(u) => writes(
-            o,
-            o.opening,
-            Half::Holds(u / 16),
-            Claim::Free,
-            ChannelByte::dl(u),
-            true,
-        ),
+        Offer::Unit(u) => writes(o, o.opening, Half::Holds(u / 16), ChannelByte::dl(u), true),
     }
 }
 
@@ -132,16 +125,8 @@ fn all_ones(f: Form) -> u8
 fn fills(f: Form, o: Outbound, g: Drive) -> WritingMade
     ensures { λ r. ⌜ r ≡ writingMade (writesUnit f o g Offer.Nothing) ⌝ }
 {
-    let claim = o.claim;
     if pair_form(f) {
-        return writes(
-            o,
-            o.opening,
-            Half::Empty,
-            claim,
-            unit::unit_byte(f, all_ones(f)),
-            false,
-        );
+        return sends(o, unit::unit_byte(f, all_ones(f)), false);
     }
     writes_given(Shape::Unit(f), o, g)
 }
@@ -150,14 +135,7 @@ fn writes_unit(f: Form, o: Outbound, g: Drive, offer: Offer) -> WritingMade
     ensures { λ r. ⌜ r ≡ writingMade (writesUnit f o g offer) ⌝ }
 {
     match offer {
-        Offer::Unit(u) => writes(
-            o,
-            o.opening,
-            Half::Empty,
-            Claim::Free,
-            unit::unit_byte(f, u),
-            true,
-        ),
+        Offer::Unit(u) => sends(o, unit::unit_byte(f, u), true),
         Offer::Nothing => fills(f, o, g),
     }
 }
@@ -237,9 +215,8 @@ fn dh_due(high: u8) -> ChannelByte
 fn writes_due(w: u8, o: Outbound, g: Drive, due: Half) -> WritingMade
     ensures { λ r. ⌜ r ≡ writingMade (writesDue w o g due) ⌝ }
 {
-    let claim = o.claim;
     match due {
-        Half::Holds(high) => writes(o, o.opening, Half::Empty, claim, dh_due(high), false),
+        Half::Holds(high) => sends(o, dh_due(high), false),
         Half::Empty => writes_broken(w, o, g),
     }
 }
@@ -271,19 +248,11 @@ pub fn writing(s: Shape, o: Outbound, g: Drive) -> WritingMade
     ensures { λ r. ⌜ r ≡ writingMade (writing s o g) ⌝ }
 {
     let opening = o.opening;
-    let claim = o.claim;
     if opening < opening_bytes(s) {
         if opening < OPENING_SD {
-            return writes_sd(s, o, opening + 1, claim, g.leads, g);
+            return writes_sd(s, o, opening + 1, Claim::Free, g.leads, g);
         }
-        return writes(
-            o,
-            opening + 1,
-            Half::Empty,
-            claim,
-            pair_byte(opening),
-            false,
-        );
+        return writes(o, opening + 1, Half::Empty, pair_byte(opening), false);
     }
     writes_data(s, o, g)
 }

@@ -55,10 +55,10 @@ module _ (f : Form) (o : Outbound) (i : Inbound) (h : Shown) (g : Drive) (heard 
       })
 
   -- a byte alone that is no Sd: of the pair
-  units-pair : (b pair : ℕ) (opening : ℕ) (c : Claim) → reading (shape.Unit f) i heard ≡ reads i Empty pair delivered.Nothing → shownNext (Alone b) h ≡ h
+  units-pair : (b pair : ℕ) (opening : ℕ) → reading (shape.Unit f) i heard ≡ reads i Empty pair delivered.Nothing → shownNext (Alone b) h ≡ h
       → pair ≡ pairAfter opening → opening ≤ openingBytes (shape.Unit f)
-      → Kept (Units f) atOnce h [] (writes o opening Empty c (Alone b) false) (reading (shape.Unit f) i heard) (g .offer)
-  units-pair b pair opening c r s z l =
+      → Kept (Units f) atOnce h [] (writes o opening Empty (Alone b) false) (reading (shape.Unit f) i heard) (g .offer)
+  units-pair b pair opening r s z l =
       rw r
       (record {
         now = [];
@@ -68,16 +68,16 @@ module _ (f : Form) (o : Outbound) (i : Inbound) (h : Shown) (g : Drive) (heard 
       })
 
   -- a unit, taken or fill
-  units-one : (u pair : ℕ) (c : Claim) (taken : Bool) → reading (shape.Unit f) i heard ≡ reads i Empty pair (delivered.Unit u) → pair ≡ pairAfter (o .opening)
+  units-one : (u pair : ℕ) (taken : Bool) → reading (shape.Unit f) i heard ≡ reads i Empty pair (delivered.Unit u) → pair ≡ pairAfter (o .opening)
       → carried taken (g .offer) (Unit f u) ≡ u ∷ []
-      → Kept (Units f) atOnce h [] (writes o (o .opening) Empty c (Unit f u) taken) (reading (shape.Unit f) i heard) (g .offer)
-  units-one u pair c taken r z q =
+      → Kept (Units f) atOnce h [] (writes o (o .opening) Empty (Unit f u) taken) (reading (shape.Unit f) i heard) (g .offer)
+  units-one u pair taken r z c =
       rw r
       (record {
         now = [];
         mirror = record { signals = signalled-on (m .signals) Empty pair (delivered.Unit u); empty = refl; pair = z; opening = m .opening };
-        units = q;
-        delivers = sym q;
+        units = c;
+        delivers = sym c;
       })
 
 -- one slot of form 6
@@ -91,7 +91,7 @@ module _ (o : Outbound) (i : Inbound) (h : Shown) (g : Drive) (heard : ℕ) wher
         → Kept (Units Six) atOnce h [] (writesUnit Six o g x) (reading (shape.Unit Six) i heard) (g .offer)
     six-offer offer.Nothing e a = six-sd (o .claim) (g .leads) a
     six-offer (offer.Unit u) e a =
-        units-one Six o i h g heard m u 0 Free true (reads-six i heard u (allowed u e) a) (rw z refl) (rw e refl)
+        units-one Six o i h g heard m u 0 true (reads-six i heard u (allowed u e) a) (rw z refl) (rw e refl)
 
     six-claim : (c : Claim) → ArrivesOne (writesClaim (shape.Unit Six) o g c .sent) heard
         → Kept (Units Six) atOnce h [] (writesClaim (shape.Unit Six) o g c) (reading (shape.Unit Six) i heard) (g .offer)
@@ -102,7 +102,7 @@ module _ (o : Outbound) (i : Inbound) (h : Shown) (g : Drive) (heard : ℕ) wher
         (λ x. ArrivesOne (x .sent) heard → Kept (Units Six) atOnce h [] x (reading (shape.Unit Six) i heard) (g .offer))
         (changed (g .leads) o) (λ t. six-sd (Second (g .leads)) (g .leads)) (λ t. six-offer (g .offer) refl) a
 
-  opening-six : ltb (o .opening) 16 ≡ true → writing (shape.Unit Six) o g ≡ writesSd (shape.Unit Six) o (o .opening + 1) (o .claim) (g .leads) g
+  opening-six : ltb (o .opening) 16 ≡ true → writing (shape.Unit Six) o g ≡ writesSd (shape.Unit Six) o (o .opening + 1) Free (g .leads) g
   unfolding writing writesOpening
   opening-six e = rw e refl
 
@@ -123,7 +123,7 @@ module _ (o : Outbound) (i : Inbound) (h : Shown) (g : Drive) (heard : ℕ) wher
       go : (x : Bool) → ltb (o .opening) 16 ≡ x → Kept (Units Six) atOnce h [] (writing (shape.Unit Six) o g) (reading (shape.Unit Six) i heard) (g .offer)
       go true e =
           let l : o .opening < 16 = ltb-true (o .opening) 16 e in
-          kept-as heard (opening-six e) a (units-sd Six o i h g heard m (o .opening + 1) (o .claim) (g .leads) no-pair (none-yet (o .opening + 1) (omega arith)) (omega arith))
+          kept-as heard (opening-six e) a (units-sd Six o i h g heard m (o .opening + 1) Free (g .leads) no-pair (none-yet (o .opening + 1) (omega arith)) (omega arith))
       go false e =
           let l : 16 ≤ o .opening = ltb-false (o .opening) 16 e in
           let z : o .opening ≡ 16 = omega (arith, m .opening) in
@@ -134,15 +134,15 @@ module _ (f : Form) (p : pairForm f ≡ true) (o : Outbound) (i : Inbound) (h : 
   opening-is : openingBytes (shape.Unit f) ≡ 18
   opening-is = rw p refl
 
-  stream-sd : o .opening < 16 → writing (shape.Unit f) o g ≡ writesSd (shape.Unit f) o (o .opening + 1) (o .claim) (g .leads) g
+  stream-sd : o .opening < 16 → writing (shape.Unit f) o g ≡ writesSd (shape.Unit f) o (o .opening + 1) Free (g .leads) g
   unfolding writing writesOpening
   stream-sd l = rw (p, lt-ltb (o .opening) 18 (omega arith), lt-ltb (o .opening) 16 l) refl
 
-  stream-05 : o .opening ≡ 16 → writing (shape.Unit f) o g ≡ writes o 17 Empty (o .claim) (Alone 0x05) false
+  stream-05 : o .opening ≡ 16 → writing (shape.Unit f) o g ≡ writes o 17 Empty (Alone 0x05) false
   unfolding writing writesOpening
   stream-05 e = rw (p, e) refl
 
-  stream-0d : o .opening ≡ 17 → writing (shape.Unit f) o g ≡ writes o 18 Empty (o .claim) (Alone 0x0D) false
+  stream-0d : o .opening ≡ 17 → writing (shape.Unit f) o g ≡ writes o 18 Empty (Alone 0x0D) false
   unfolding writing writesOpening
   stream-0d e = rw (p, e) refl
 
@@ -175,13 +175,13 @@ module _ (f : Form) (p : pairForm f ≡ true) (o : Outbound) (i : Inbound) (h : 
     stream-offer : (x : Offer) → g .offer ≡ x → o .opening ≡ 18 → ArrivesOne (writesUnit f o g x .sent) heard
         → Kept (Units f) atOnce h [] (writesUnit f o g x) (reading (shape.Unit f) i heard) (g .offer)
     stream-offer (offer.Unit u) e z a =
-        units-one f o i h g heard m u 2 Free true (reads-unit i heard f u p (m .pair ∙ rw z refl) (allowed u e) a) (rw z refl) (rw e refl)
+        units-one f o i h g heard m u 2 true (reads-unit i heard f u p (m .pair ∙ rw z refl) (allowed u e) a) (rw z refl) (rw e refl)
     stream-offer offer.Nothing e z a =
         subst (λ w. Kept (Units f) atOnce h [] w (reading (shape.Unit f) i heard) (g .offer)) (sym filled)
-        (units-one f o i h g heard m (unitsOf f - 1) 2 (o .claim) false
+        (units-one f o i h g heard m (unitsOf f - 1) 2 false
         (reads-unit i heard f (unitsOf f - 1) p (m .pair ∙ rw z refl) (ones-fit f) (subst (λ w. ArrivesOne (w .sent) heard) filled a)) (rw z refl) refl)
       where
-        filled : writesUnit f o g offer.Nothing ≡ writes o (o .opening) Empty (o .claim) (Unit f (unitsOf f - 1)) false
+        filled : writesUnit f o g offer.Nothing ≡ writes o (o .opening) Empty (Unit f (unitsOf f - 1)) false
         filled = rw p refl
 
     stream-step : ArrivesOne (writing (shape.Unit f) o g .sent) heard → Kept (Units f) atOnce h [] (writing (shape.Unit f) o g) (reading (shape.Unit f) i heard) (g .offer)
@@ -193,13 +193,13 @@ module _ (f : Form) (p : pairForm f ≡ true) (o : Outbound) (i : Inbound) (h : 
         go : Dec (o .opening < 16) → Dec (o .opening < 17) → Dec (o .opening < 18) → Kept (Units f) atOnce h [] (writing (shape.Unit f) o g) (reading (shape.Unit f) i heard) (g .offer)
         go (yes l) y z =
             kept-as heard (stream-sd l) a
-            (units-sd f o i h g heard m (o .opening + 1) (o .claim) (g .leads) (no-pair-yet (omega arith) (m .pair)) (rw (lt-ltb (o .opening + 1) 17 (omega arith)) refl) (rw opening-is (omega arith)))
+            (units-sd f o i h g heard m (o .opening + 1) Free (g .leads) (no-pair-yet (omega arith) (m .pair)) (rw (lt-ltb (o .opening + 1) 17 (omega arith)) refl) (rw opening-is (omega arith)))
         go (no l) (yes y) z =
             let e : o .opening ≡ 16 = omega arith in
-            kept-as heard (stream-05 e) a (λ b. units-pair f o i h g heard m 0x05 1 17 (o .claim) (reads-05 i heard f p (no-pair-yet y (m .pair)) b) shown-05 refl (rw opening-is (omega arith)))
+            kept-as heard (stream-05 e) a (λ b. units-pair f o i h g heard m 0x05 1 17 (reads-05 i heard f p (no-pair-yet y (m .pair)) b) shown-05 refl (rw opening-is (omega arith)))
         go (no l) (no y) (yes z) =
             let e : o .opening ≡ 17 = omega arith in
-            kept-as heard (stream-0d e) a (λ b. units-pair f o i h g heard m 0x0D 2 18 (o .claim) (reads-0d i heard f p (m .pair ∙ rw e refl) b) shown-0d refl (rw opening-is (omega arith)))
+            kept-as heard (stream-0d e) a (λ b. units-pair f o i h g heard m 0x0D 2 18 (reads-0d i heard f p (m .pair ∙ rw e refl) b) shown-0d refl (rw opening-is (omega arith)))
         go (no l) (no y) (no z) =
             let e : o .opening ≡ 18 = omega (arith, most) in
             kept-as heard (stream-data e) a (stream-offer (g .offer) refl e)

@@ -70,7 +70,7 @@ module _ (w : ℕ) (o : Outbound) (i : Inbound) (h : Shown) (g : Drive) (heard :
   read-dl u k off a = rw (b8-ignored heard (dlByte u) a ∙ dl-read u k) (rw off refl)
 
   word-dl : (u : ℕ) → u < 2 ^ w → u < 256 → g .offer ≡ offer.Unit u → 16 ≤ o .opening → o .last .bk ≡ false → o .before .bk ≡ false → Words w o i h [] → heard / 2 ≡ dlByte u / 2
-      → Kept (Words w) late h [] (writes o (o .opening) (Holds (u / 16)) Free (Alone (dlByte u)) true) (reading (shape.Word w) i heard) (g .offer)
+      → Kept (Words w) late h [] (writes o (o .opening) (Holds (u / 16)) (Alone (dlByte u)) true) (reading (shape.Word w) i heard) (g .offer)
   word-dl u l k e past p q m a =
       rw (read-dl u k (m .off p q) a)
       (record {
@@ -99,7 +99,7 @@ module _ (w : ℕ) (o : Outbound) (i : Inbound) (h : Shown) (g : Drive) (heard :
       rw kind (rw (off, z, e, whole, mod-eq-of-lt l) refl)
 
   word-dh : (u : ℕ) → u < 2 ^ w → u < 256 → i .half ≡ Holds (u % 16) → i .standing .bk ≡ false → Words w o i h (u ∷ []) → heard / 2 ≡ dhByte (16 * (u / 16)) / 2
-      → Kept (Words w) late h (u ∷ []) (writes o (o .opening) Empty (o .claim) (Alone (dhByte (16 * (u / 16)))) false) (reading (shape.Word w) i heard) (g .offer)
+      → Kept (Words w) late h (u ∷ []) (writes o (o .opening) Empty (Alone (dhByte (16 * (u / 16)))) false) (reading (shape.Word w) i heard) (g .offer)
   word-dh u l k e off m a =
       let small : 16 * (u / 16) < 256 = omega arith in
       rw (read-dh u l k e off a)
@@ -164,7 +164,7 @@ module _ (w : ℕ) (small : w ≤ 8) (i : Inbound) (h : Shown) (heard : ℕ) whe
       (λ t. let off = not-held (g .flag) (o .last .bk) (o .before .bk) t in word-claim o g (off .0) (off .1) past allowed e f m (o .claim))
       (subst (λ x. ArrivesOne (writesDue w o g x .sent) heard) e a))
 
-  opening-word : (o : Outbound) (g : Drive) → ltb (o .opening) 16 ≡ true → writing (shape.Word w) o g ≡ writesSd (shape.Word w) o (o .opening + 1) (o .claim) (g .leads) g
+  opening-word : (o : Outbound) (g : Drive) → ltb (o .opening) 16 ≡ true → writing (shape.Word w) o g ≡ writesSd (shape.Word w) o (o .opening + 1) Free (g .leads) g
   unfolding writing writesOpening
   opening-word o g e = rw e refl
 
@@ -173,9 +173,9 @@ module _ (w : ℕ) (small : w ≤ 8) (i : Inbound) (h : Shown) (heard : ℕ) whe
   data-word o g e = rw e refl
 
   word-opening : (o : Outbound) (g : Drive) (pending : List ℕ) → o .opening < 16 → Words w o i h pending → Due w o i pending
-      → ArrivesOne (writesSd (shape.Word w) o (o .opening + 1) (o .claim) (g .leads) g .sent) heard
-      → Kept (Words w) late h pending (writesSd (shape.Word w) o (o .opening + 1) (o .claim) (g .leads) g) (reading (shape.Word w) i heard) (g .offer)
-  word-opening o g pending l m (none e f) a = word-sd w o i h g heard (o .opening + 1) (o .claim) (g .leads) m e f a
+      → ArrivesOne (writesSd (shape.Word w) o (o .opening + 1) Free (g .leads) g .sent) heard
+      → Kept (Words w) late h pending (writesSd (shape.Word w) o (o .opening + 1) Free (g .leads) g) (reading (shape.Word w) i heard) (g .offer)
+  word-opening o g pending l m (none e f) a = word-sd w o i h g heard (o .opening + 1) Free (g .leads) m e f a
   word-opening o g pending l m (some u lu k op e f off) a = absurd (omega arith)
 
   pub word-step : (o : Outbound) (g : Drive) (pending : List ℕ) → ((u : ℕ) → g .offer ≡ offer.Unit u → wordFits w u ≡ true) → Words w o i h pending

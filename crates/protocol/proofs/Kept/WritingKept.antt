@@ -9,7 +9,7 @@ use Rattle.ground.proofs.Test.{by-test, both-left, both-right}
 use Rattle.channel.specs.declared.unit.Form.{Form}
 use Rattle.channel.specs.Forms.{wordFits}
 use Rattle.channel.specs.declared.byte.Leads.{Leads}
-use Rattle.protocol.specs.Opened.{hasUnit, isWord, pairForm, hasPair, openingSd, openingBytes, freshLine, Writing, writesSd, writesOpening, writesWord, writesUnit, writesOffer, changed, writesClaim, held, writesDue, writesData, writing}
+use Rattle.protocol.specs.Opened.{hasUnit, isWord, pairForm, hasPair, openingSd, openingBytes, freshLine, Writing, writesSd, writesOpening, writesGiven, writesWord, writesUnit, writesOffer, changed, writesClaim, held, writesDue, writesData, writing}
 use Rattle.protocol.specs.Ranges.{dueIn, noneDue, claimIn, outboundIn}
 use Rattle.protocol.specs.declared.Half.{Half}
 use Rattle.protocol.specs.declared.Half.the-variants.{Empty, Holds}
@@ -45,20 +45,14 @@ moved-up (shape.Word w) flag bk1 bk2 e = refl
 moved-up (shape.Unit f) flag true bk2 e = e
 moved-up (shape.Unit f) flag false bk2 e = refl
 
--- a claim stays in its range while the first bytes go on and no DH is due
+-- a claim stays in its range where no DH is due
 abbrev mayClaim : Shape → ℕ → Half → Bool
 mayClaim s opening due = not (hasPair s) && leb openingSd opening && noneDue due
 
-claim-later : (s : Shape) (n m : ℕ) (due : Half) → n ≤ m → mayClaim s n due ≡ true → mayClaim s m Empty ≡ true
-claim-later s n m due l e =
-    let first = both-left (not (hasPair s) && leb openingSd n) (noneDue due) e in
-    let past = leb-true openingSd n (both-right (not (hasPair s)) (leb openingSd n) first) in
-    both (both (both-left (not (hasPair s)) (leb openingSd n) first) (le-leb openingSd m (omega arith))) refl
-
-claim-stays : (s : Shape) (n m : ℕ) (due : Half) (c : Claim) → n ≤ m → claimIn s n due c ≡ true → claimIn s m Empty c ≡ true
-claim-stays s n m due Free l e = refl
-claim-stays s n m due (Second leads) l e = claim-later s n m due l e
-claim-stays s n m due Owed l e = claim-later s n m due l e
+claim-stays : (s : Shape) (n : ℕ) (due : Half) (c : Claim) → claimIn s n due c ≡ true → claimIn s n Empty c ≡ true
+claim-stays s n due Free e = refl
+claim-stays s n due (Second leads) e = both (both-left (not (hasPair s) && leb openingSd n) (noneDue due) e) refl
+claim-stays s n due Owed e = both (both-left (not (hasPair s) && leb openingSd n) (noneDue due) e) refl
 
 module _ (s : Shape) (o : Outbound) (g : Drive) (i : OutboundIn s o) where
   sd-kept : (opening : ℕ) (c : Claim) (leads : Leads) → opening ≤ openingBytes s → claimIn s opening Empty c ≡ true
@@ -72,23 +66,14 @@ module _ (s : Shape) (o : Outbound) (g : Drive) (i : OutboundIn s o) where
       }
 
   -- who has a claim keeps it
-  same-claim : (opening : ℕ) → o .opening ≤ opening → claimIn s opening Empty (o .claim) ≡ true
-  same-claim opening l = claim-stays s (o .opening) opening (o .due) (o .claim) l (i .claim)
-
-  given-kept : (opening : ℕ) → o .opening ≤ opening → opening ≤ openingBytes s → Kept s (writesSd s o opening (o .claim) (g .leads) g)
-  given-kept opening l h = sd-kept opening (o .claim) (g .leads) h (same-claim opening l)
+  given-kept : Kept s (writesGiven s o g)
+  given-kept = sd-kept (o .opening) (o .claim) (g .leads) (i .opening) (claim-stays s (o .opening) (o .due) (o .claim) (i .claim))
 
   opening-kept : o .opening < openingBytes s → Kept s (writesOpening s o g)
   unfolding writesOpening
   opening-kept l =
-      by-test (Kept s) (ltb (o .opening) openingSd) (λ t. given-kept (o .opening + 1) (omega arith) (omega arith))
-      (λ t.
-      record {
-        opening = omega arith;
-        due = due-empty s (o .opening + 1);
-        claim = same-claim (o .opening + 1) (omega arith);
-        breaks = i .breaks;
-      })
+      by-test (Kept s) (ltb (o .opening) openingSd) (λ t. sd-kept (o .opening + 1) Free (g .leads) (omega arith) refl)
+      (λ t. record { opening = omega arith; due = due-empty s (o .opening + 1); claim = refl; breaks = i .breaks })
 
 -- an offered unit is one of the shape's
 abbrev pub Fits : Shape → Offer → Type 0
@@ -99,7 +84,7 @@ Fits s (offer.Unit u) = hasUnit s u ≡ true
 word-kept : (w : ℕ) (o : Outbound) (g : Drive) → OutboundIn (shape.Word w) o → openingSd ≤ o .opening → (x : Offer) → Fits (shape.Word w) x
     → Kept (shape.Word w) (writesWord w o g x)
 unfolding hasUnit wordFits
-word-kept w o g i past offer.Nothing fits = given-kept (shape.Word w) o g i (o .opening) (omega arith) (i .opening)
+word-kept w o g i past offer.Nothing fits = given-kept (shape.Word w) o g i
 word-kept w o g i past (offer.Unit u) fits =
     record {
       opening = i .opening;
@@ -111,9 +96,8 @@ word-kept w o g i past (offer.Unit u) fits =
 unit-kept : (f : Form) (o : Outbound) (g : Drive) → OutboundIn (shape.Unit f) o → (x : Offer) → Kept (shape.Unit f) (writesUnit f o g x)
 unit-kept f o g i (offer.Unit u) = record { opening = i .opening; due = refl; claim = refl; breaks = i .breaks }
 unit-kept f o g i offer.Nothing =
-    by-test (Kept (shape.Unit f)) (pairForm f)
-    (λ t. record { opening = i .opening; due = refl; claim = same-claim (shape.Unit f) o g i (o .opening) (omega arith); breaks = i .breaks })
-    (λ t. given-kept (shape.Unit f) o g i (o .opening) (omega arith) (i .opening))
+    by-test (Kept (shape.Unit f)) (pairForm f) (λ t. record { opening = i .opening; due = refl; claim = refl; breaks = i .breaks })
+    (λ t. given-kept (shape.Unit f) o g i)
 
 -- forms 0 and 6: whoever has a claim
 module _ (s : Shape) (o : Outbound) (g : Drive) (i : OutboundIn s o) (past : openingSd ≤ o .opening) (fits : Fits s (g .offer)) where
@@ -134,11 +118,9 @@ module _ (s : Shape) (o : Outbound) (g : Drive) (i : OutboundIn s o) (past : ope
 
 due-kept : (w : ℕ) (o : Outbound) (g : Drive) → OutboundIn (shape.Word w) o → openingSd ≤ o .opening → (d : Half) → Fits (shape.Word w) (g .offer)
     → Kept (shape.Word w) (writesDue w o g d)
-due-kept w o g i past (Holds high) fits =
-    record { opening = i .opening; due = refl; claim = same-claim (shape.Word w) o g i (o .opening) (omega arith); breaks = i .breaks }
+due-kept w o g i past (Holds high) fits = record { opening = i .opening; due = refl; claim = refl; breaks = i .breaks }
 due-kept w o g i past Empty fits =
-    by-test (Kept (shape.Word w)) (held (g .flag) (o .last .bk) (o .before .bk))
-    (λ t. given-kept (shape.Word w) o g i (o .opening) (omega arith) (i .opening))
+    by-test (Kept (shape.Word w)) (held (g .flag) (o .last .bk) (o .before .bk)) (λ t. given-kept (shape.Word w) o g i)
     (λ t. claim-kept (shape.Word w) o g i past fits refl (o .claim))
 
 data-kept : (s : Shape) (o : Outbound) (g : Drive) → OutboundIn s o → openingBytes s ≤ o .opening → Fits s (g .offer)

@@ -14,14 +14,14 @@ all-ones-requires c κs = search needs
 unit-byte-requires : tie.Need-unit-byte-requires
 unit-byte-requires c κs = search needs
 
-writes-requires : tie.Need-writes-requires
-writes-requires c κs = search needs
+sends-requires : tie.Need-sends-requires
+sends-requires c κs = search needs
 
 returns : tie.Need-returns
 unfolding byteSent
 returns c =
     simp (
-      c .writes .ensures,
+      c .sends .ensures,
       c .before .unit-byte .ensures,
       c .before .before .all-ones .ensures,
       sym (c .before .before .before .before .pair-form .ensures) ∙ c .before .before .before .if1 .taken,
@@ -40,7 +40,7 @@ fills-spec =
     pair-form-requires
     all-ones-requires
     unit-byte-requires
-    writes-requires
+    sends-requires
     returns
     writes-given-requires
     returns-2)

@@ -10,8 +10,8 @@ enum-known-due c = search needs
 dh-due-requires : tie.Need-dh-due-requires
 dh-due-requires c κs = search needs
 
-writes-requires : tie.Need-writes-requires
-writes-requires c κs = search needs
+sends-requires : tie.Need-sends-requires
+sends-requires c κs = search needs
 
 enum-told : tie.Need-enum-told
 enum-told c = search needs
@@ -21,7 +21,7 @@ writes-broken-requires c κs = search needs
 
 returns : tie.Need-returns
 unfolding byteSent
-returns c = simp (c .writes .ensures, c .before .dh-due .ensures, c .before .before .before .due .given .1)
+returns c = simp (c .sends .ensures, c .before .dh-due .ensures, c .before .before .before .due .given .1)
 
 returns-2 : tie.Need-returns-2
 returns-2 c = simp (c .writes-broken .ensures, c .before .enum-told .given .1)
@@ -32,7 +32,7 @@ writes-due-spec =
     (tie.spec
     enum-known-due
     dh-due-requires
-    writes-requires
+    sends-requires
     enum-told
     writes-broken-requires
     returns

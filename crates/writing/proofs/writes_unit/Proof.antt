@@ -10,8 +10,8 @@ enum-known-offer c = search needs
 unit-byte-requires : tie.Need-unit-byte-requires
 unit-byte-requires c κs = search needs
 
-writes-requires : tie.Need-writes-requires
-writes-requires c κs = search needs
+sends-requires : tie.Need-sends-requires
+sends-requires c κs = search needs
 
 enum-told : tie.Need-enum-told
 enum-told c = search needs
@@ -21,7 +21,7 @@ fills-requires c κs = search needs
 
 returns : tie.Need-returns
 unfolding byteSent
-returns c = simp (c .writes .ensures, c .before .unit-byte .ensures, c .before .before .before .offer .given .1)
+returns c = simp (c .sends .ensures, c .before .unit-byte .ensures, c .before .before .before .offer .given .1)
 
 returns-2 : tie.Need-returns-2
 returns-2 c = simp (c .fills .ensures, c .before .enum-told .given .1)
@@ -32,7 +32,7 @@ writes-unit-spec =
     (tie.spec
     enum-known-offer
     unit-byte-requires
-    writes-requires
+    sends-requires
     enum-told
     fills-requires
     returns
