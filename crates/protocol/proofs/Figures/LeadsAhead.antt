@@ -4,10 +4,14 @@ use mathlib.Core.Path.{_≡_, refl}
 use mathlib.Core.Bool.{true, false}
 use mathlib.Core.List.{List, [], _∷_, _++_}
 use Prim.Native.Nat.{ℕ}
-use lib.ListN.{replicate}
+use lib.ListN.{replicate, getD}
 use Rattle.channel.specs.declared.byte.Leads.{Leads}
+use Rattle.channel.specs.declared.unit.Form.the-variants.{Six}
 use Rattle.protocol.proofs.Computing.{computing}
 use Rattle.protocol.specs.Opened.{driveWith, outboundOf}
+use Rattle.protocol.specs.Sent.{Sent, Silence, Alone, Unit}
+use Rattle.protocol.specs.Carried.{Shown, shownAfter}
+use Rattle.protocol.specs.declared.Signals.{Signals}
 use Rattle.protocol.specs.declared.Half.{Half}
 use Rattle.protocol.specs.declared.Half.the-variants.{Empty, Holds}
 use Rattle.protocol.specs.declared.Claim.{Claim}
@@ -78,6 +82,8 @@ inSix =
     ∷ after (leads 0 1 0 0) (leads 0 0 0 0) 2
     ∷ after (leads 0 1 0 0) (leads 0 1 1 0) 2
     ∷ after (leads 0 1 0 0) (leads 0 1 0 1) 2
+    ∷ stands six Empty Free (leads 0 1 1 0) (leads 0 1 1 0) ((offering (leads 0 1 1 0), 0x85, true) ∷ [])
+    ∷ stands six Empty Free (leads 0 1 0 1) (leads 0 1 0 1) ((offering (leads 0 1 0 1), 0x85, true) ∷ [])
     -- 4 holds whether or not a unit is offered, and so does 3
     ∷ settled six
     ((quietly ready, 0xC3, false)
@@ -215,12 +221,32 @@ unclaimed f byte =
 abbrev inStreams : List Row
 inStreams = unclaimed (seven 1) 0x43 ∷ unclaimed (seven 2) 0x85 ∷ unclaimed eight 0x84 ∷ []
 
+-- Over what went in these slots: the last Sd, the one before it, and the signals that stand at the far end; data between leaves them.
+abbrev went : ℕ → Sent
+went n = getD (Alone 0xC3 ∷ Alone 0xE3 ∷ Alone 0x55 ∷ Unit Six 0x21 ∷ Alone 0xBB ∷ Alone 0x43 ∷ Alone 0xC3 ∷ []) n Silence
+
+abbrev shown : Signals → Signals → Signals → Shown
+shown last before standing = record { last = last; before = before; standing = standing }
+
+pub record ShownFigures : Type 0 where
+  pub none : shownAfter went 0 ≡ shown (signals 0 1 0 0 0) (signals 0 1 0 0 0) (signals 0 1 0 0 0)
+  pub two : shownAfter went 2 ≡ shown (signals 1 1 1 0 0) (signals 1 1 0 0 0) (signals 1 1 0 0 0)
+  pub over-data : shownAfter went 5 ≡ shown (signals 1 0 1 1 1) (signals 1 1 1 0 0) (signals 1 1 1 0 0)
+  pub parted : shownAfter went 7 ≡ shown (signals 1 1 0 0 0) (signals 0 1 0 0 0) (signals 1 1 0 0 0)
+
 -- All of these.
 pub record LeadsFigures : Type 0 where
+  pub shows : ShownFigures
   pub units : defined inSix ≡ written inSix
   pub words : defined inWords ≡ written inWords
   pub streams : defined inStreams ≡ written inStreams
 
 pub leads-figures : LeadsFigures
-unfolding computing
-leads-figures = record { units = refl; words = refl; streams = refl }
+unfolding computing shownAfter
+leads-figures =
+    record {
+      shows = record { none = refl; two = refl; over-data = refl; parted = refl };
+      units = refl;
+      words = refl;
+      streams = refl;
+    }
