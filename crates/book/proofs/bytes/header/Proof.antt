@@ -25,7 +25,7 @@ shared-slice-read-t11 : tie.Need-shared-slice-read-t11
 shared-slice-read-t11 c = search needs
 
 returns : tie.Need-returns
-returns c = cc
+returns c = rw (c .before .before .before .word .ensures)
 
 pub header-spec : {M : Type 1} → statement M
 header-spec =

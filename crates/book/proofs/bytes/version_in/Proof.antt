@@ -18,7 +18,7 @@ word-requires c κs = search needs
 
 returns : tie.Need-returns
 unfolding versionIn
-returns c = cc
+returns c = c .word .ensures
 
 pub version-in-spec : {M : Type 1} → statement M
 version-in-spec =
