@@ -18,6 +18,10 @@ unfolding appended
 appended-append t [] ys = refl
 appended-append t (x ∷ xs) ys = appended-append (pushed t x) xs ys
 
+-- what is appended to what was appended
+pub then : (t : Text) (xs ys : List ℕ) {s r : Text} → s ≡ appended t xs → r ≡ appended s ys → r ≡ appended t (xs ++ ys)
+then t xs ys p q = q ∙ ap (λ (u : Text). appended u ys) p ∙ appended-append t xs ys
+
 -- the text by its parts
 textWith : List ℕ → ℕ → Text
 textWith bytes n = record { bytes = bytes; length = n }
@@ -80,3 +84,7 @@ appended-text xs (y ∷ ys) =
     ap (λ (t : Text). appended t ys) (pushed-text xs y)
     ∙ appended-text (xs ++ (y ∷ [])) ys
     ∙ ap text (append-assoc xs (y ∷ []) ys)
+
+-- so does what is appended to a text of characters
+pub text-then : (xs ys : List ℕ) {s r : Text} → s ≡ text xs → r ≡ appended s ys → r ≡ text (xs ++ ys)
+text-then xs ys p q = q ∙ ap (λ (u : Text). appended u ys) p ∙ appended-text xs ys

@@ -1,6 +1,6 @@
 -- `pair::report::at_fault` meets its contract. Assumes nothing.
 use Rattle.pair.specs.Report.{atFault}
-use Rattle.text.proofs.Joined.{appended-append}
+use Rattle.text.proofs.Joined.{then}
 use borrow.Author.Needs.{needs}
 use Rattle.pair.proofs.report.at_fault.Statement.{statement}
 use Rattle.pair.proofs.report.at_fault.Tie as tie
@@ -22,7 +22,9 @@ word-requires-2 c κs = search needs
 
 returns : tie.Need-returns
 unfolding atFault
-returns c = simp (c .word2 .ensures, c .before .before .decimal .ensures, c .before .before .before .word .ensures, ← appended-append)
+returns c =
+    let numbered = c .before .before in
+    then _ _ _ (then _ _ _ (numbered .before .word .ensures) (numbered .decimal .ensures)) (c .word2 .ensures)
 
 pub at-fault-spec : {M : Type 1} → statement M
 at-fault-spec =

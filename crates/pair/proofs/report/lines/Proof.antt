@@ -1,6 +1,6 @@
 -- `pair::report::lines` meets its contract. Assumes nothing.
 use Rattle.pair.specs.Report.{linesOf}
-use Rattle.text.proofs.Joined.{appended-text}
+use Rattle.text.proofs.Joined.{text-then}
 use borrow.Author.Needs.{needs}
 use Rattle.pair.proofs.report.lines.Statement.{statement}
 use Rattle.pair.proofs.report.lines.Tie as tie
@@ -85,23 +85,37 @@ end-line-requires-2 c κs = search needs
 
 returns : tie.Need-returns
 unfolding linesOf
-returns c = simp (c .word .ensures, c .before .before .empty .ensures, c .before .before .before .enum-told .given .1, appended-text)
+returns c = rw (c .before .before .before .enum-told .given .1) (text-then _ _ (c .before .before .empty .ensures) (c .word .ensures))
 
 returns-2 : tie.Need-returns-2
 unfolding linesOf
-returns-2 c = simp (c .at-fault .ensures, c .before .word2 .ensures, c .before .before .before .empty2 .ensures, c .before .before .before .before .before .j .given .1, appended-text)
+returns-2 c =
+    let letter = c .before in
+    rw (letter .before .before .before .before .j .given .1)
+    (text-then _ _ (text-then _ _ (letter .before .before .empty2 .ensures) (letter .word2 .ensures)) (c .at-fault .ensures))
 
 returns-3 : tie.Need-returns-3
 unfolding linesOf
-returns-3 c = simp (c .at-fault2 .ensures, c .before .word3 .ensures, c .before .before .before .empty3 .ensures, c .before .before .before .before .before .j2 .given .1, appended-text)
+returns-3 c =
+    let letter = c .before in
+    rw (letter .before .before .before .before .j2 .given .1)
+    (text-then _ _ (text-then _ _ (letter .before .before .empty3 .ensures) (letter .word3 .ensures)) (c .at-fault2 .ensures))
 
 returns-4 : tie.Need-returns-4
 unfolding linesOf
-returns-4 c = simp (c .word4 .ensures, c .before .before .empty4 .ensures, c .before .before .before .enum-told2 .given .1, appended-text)
+returns-4 c = rw (c .before .before .before .enum-told2 .given .1) (text-then _ _ (c .before .before .empty4 .ensures) (c .word4 .ensures))
 
 returns-5 : tie.Need-returns-5
 unfolding linesOf
-returns-5 c = simp (c .end-line2 .ensures, c .before .word6 .ensures, c .before .before .before .end-line .ensures, c .before .before .before .before .word5 .ensures, c .before .before .before .before .before .before .empty5 .ensures, c .before .before .before .before .before .before .before .before .j3 .given .1, appended-text)
+returns-5 c =
+    let second = c .before in
+    let first = second .before .before .before in
+    rw (first .before .before .before .before .j3 .given .1)
+    (text-then _ _
+    (text-then _ _
+    (text-then _ _ (text-then _ _ (first .before .before .empty5 .ensures) (first .word5 .ensures)) (second .before .before .end-line .ensures))
+    (second .word6 .ensures))
+    (c .end-line2 .ensures))
 
 pub lines-spec : {M : Type 1} → statement M
 lines-spec =

@@ -1,6 +1,6 @@
 -- `pair::report::open_line` meets its contract. Assumes nothing.
 use Rattle.pair.specs.Report.{openLine}
-use Rattle.text.proofs.Joined.{appended-append}
+use Rattle.text.proofs.Joined.{then}
 use borrow.Author.Needs.{needs}
 use Rattle.pair.proofs.report.open_line.Statement.{statement}
 use Rattle.pair.proofs.report.open_line.Tie as tie
@@ -40,7 +40,19 @@ word-requires-4 c κs = search needs
 
 returns : tie.Need-returns
 unfolding openLine
-returns c = simp (c .word4 .ensures, c .before .before .decimal2 .ensures, c .before .before .before .word3 .ensures, c .before .before .before .before .before .parameters .ensures, c .before .before .before .before .before .before .word2 .ensures, c .before .before .before .before .before .before .before .before .decimal .ensures, c .before .before .before .before .before .before .before .before .before .word .ensures, ← appended-append)
+returns c =
+    let slotted = c .before .before in
+    let profiled = slotted .before .before .before in
+    let versioned = profiled .before .before .before in
+    then _ _ _
+    (then _ _ _
+    (then _ _ _
+    (then _ _ _
+    (then _ _ _ (then _ _ _ (versioned .before .word .ensures) (versioned .decimal .ensures)) (profiled .before .word2 .ensures))
+    (profiled .parameters .ensures))
+    (slotted .before .word3 .ensures))
+    (slotted .decimal2 .ensures))
+    (c .word4 .ensures)
 
 pub open-line-spec : {M : Type 1} → statement M
 open-line-spec =

@@ -1,6 +1,6 @@
 -- `pair::report::refused_line` meets its contract. Assumes nothing.
 use Rattle.pair.specs.Report.{refusedLine}
-use Rattle.text.proofs.Joined.{appended-append}
+use Rattle.text.proofs.Joined.{then}
 use borrow.Author.Needs.{needs}
 use Rattle.pair.proofs.report.refused_line.Statement.{statement}
 use Rattle.pair.proofs.report.refused_line.Tie as tie
@@ -31,7 +31,14 @@ word-requires-3 c κs = search needs
 
 returns : tie.Need-returns
 unfolding refusedLine
-returns c = simp (c .word3 .ensures, c .before .before .decimal2 .ensures, c .before .before .before .word2 .ensures, c .before .before .before .before .before .decimal .ensures, c .before .before .before .before .before .before .word .ensures, ← appended-append)
+returns c =
+    let slotted = c .before .before in
+    let numbered = slotted .before .before .before in
+    then _ _ _
+    (then _ _ _
+    (then _ _ _ (then _ _ _ (numbered .before .word .ensures) (numbered .decimal .ensures)) (slotted .before .word2 .ensures))
+    (slotted .decimal2 .ensures))
+    (c .word3 .ensures)
 
 pub refused-line-spec : {M : Type 1} → statement M
 refused-line-spec =
