@@ -40,13 +40,28 @@ module _ (f : Form) (t : T (upTo (λ u. upTo (λ x. gives f u (unitByte f u / 2 
       (each (λ x. gives f u (unitByte f u / 2 * 2 + x)) 2
       (each (λ u. upTo (λ x. gives f u (unitByte f u / 2 * 2 + x)) 2) (unitsOf f) t u h) (b % 2) (omega arith))
 
-pub round-trip : (f : Form) (u b : ℕ) → u < unitsOf f → arrivesAs f (unitByte f u) b → decoded f b ≡ Unit u
+-- each form by its own computed test
+six-back : (u b : ℕ) → u < unitsOf Six → arrivesAs Six (unitByte Six u) b → decoded Six b ≡ Unit u
 unfolding unitByte unitIn laid val
-round-trip Six u b h e = either-b8 Six tt u b h e
-round-trip SevenV1 u b h e = either-b8 SevenV1 tt u b h e
-round-trip SevenV2 u b h e = either-b8 SevenV2 tt u b h e
-round-trip Eight u b h e =
-    ap (decoded Eight) e ∙ is-unit Eight u (unitByte Eight u) (each (λ u. gives Eight u (unitByte Eight u)) 256 tt u h)
+six-back u b h e = either-b8 Six tt u b h e
+
+seven-v1-back : (u b : ℕ) → u < unitsOf SevenV1 → arrivesAs SevenV1 (unitByte SevenV1 u) b → decoded SevenV1 b ≡ Unit u
+unfolding unitByte unitIn laid val
+seven-v1-back u b h e = either-b8 SevenV1 tt u b h e
+
+seven-v2-back : (u b : ℕ) → u < unitsOf SevenV2 → arrivesAs SevenV2 (unitByte SevenV2 u) b → decoded SevenV2 b ≡ Unit u
+unfolding unitByte unitIn laid val
+seven-v2-back u b h e = either-b8 SevenV2 tt u b h e
+
+eight-back : (u b : ℕ) → u < unitsOf Eight → arrivesAs Eight (unitByte Eight u) b → decoded Eight b ≡ Unit u
+unfolding unitByte unitIn laid val
+eight-back u b h e = ap (decoded Eight) e ∙ is-unit Eight u (unitByte Eight u) (each (λ u. gives Eight u (unitByte Eight u)) 256 tt u h)
+
+pub round-trip : (f : Form) (u b : ℕ) → u < unitsOf f → arrivesAs f (unitByte f u) b → decoded f b ≡ Unit u
+round-trip Six u b h e = six-back u b h e
+round-trip SevenV1 u b h e = seven-v1-back u b h e
+round-trip SevenV2 u b h e = seven-v2-back u b h e
+round-trip Eight u b h e = eight-back u b h e
 
 -- form 0: the bytes of a word, whatever their B8, are a DL and a DH, and their nibbles give the word back
 pub round-trip-word : (w v low high : ℕ) → v < 2 ^ w → v < 256
