@@ -12,10 +12,10 @@ use Rattle.protocol.specs.Pair.{JoinedPair, ProfileIn, sharedVersion}
 use Rattle.protocol.specs.declared.Drive.{Drive}
 use Rattle.protocol.proofs.Chain.PairConcludes.{profile-decided, no-version, both-open, no-profile}
 use Rattle.protocol.proofs.Delivery.PairDelivers.{both-carry, dipsticks}
-use Rattle.protocol.proofs.Existence.PairExists.{pair-exists, pair-with-offers-exists, damaged-pair-exists}
-use Rattle.protocol.proofs.Existence.PairForEachDelay.{pair-for-each-delay}
-use Rattle.protocol.proofs.Existence.GoesOn.{goes-on}
-use Rattle.protocol.proofs.Existence.OneCopyWrong.{one-copy-may-be-wrong, second-copy-wrong, b8-wrong}
+use Rattle.premises.proofs.PairExists.{pair-exists, pair-with-offers-exists, damaged-pair-exists}
+use Rattle.premises.proofs.PairForEachDelay.{pair-for-each-delay}
+use Rattle.premises.proofs.GoesOn.{goes-on}
+use Rattle.premises.proofs.OneCopyWrong.{one-copy-may-be-wrong, second-copy-wrong, b8-wrong}
 use Rattle.claims.specs.JoinedPair.{SharesVersion, JoinsAsPromised, OneOfThree, SlotsInNumbers, PremisesMet}
 
 pub joins-as-promised : (d : ℕ) (bo ba : Book) (go ga : ℕ → Drive) (ho ha : ℕ → ℕ) → JoinedPair d bo ba go ga ho ha

@@ -14,11 +14,11 @@ use Rattle.protocol.specs.Slot.{started}
 use Rattle.protocol.specs.Call.{standsAt, OffersNothing, OffersFit}
 use Rattle.protocol.specs.Damage.{copyHeard, Arrives}
 use Rattle.protocol.specs.Pair.{MayJoin, JoinedPair, ProfileIn, BothOpen, BothRefuse, sharedVersion}
-use Rattle.protocol.specs.Stretch.{JoinedUpTo, GoesOn}
+use Rattle.premises.specs.Stretch.{JoinedUpTo, GoesOn}
 use Rattle.protocol.specs.Delivery.{BothCarry, Dipsticks}
-use Rattle.protocol.specs.Undamaged.{hearsO, hearsA}
-use Rattle.protocol.specs.PlainPair.{plainBook, plainDrive}
-use Rattle.protocol.specs.OneCopyWrong.{inverted, damaged, isEight, DamagedPair}
+use Rattle.premises.specs.Undamaged.{hearsO, hearsA}
+use Rattle.premises.specs.PlainPair.{plainBook, plainDrive}
+use Rattle.premises.specs.OneCopyWrong.{inverted, damaged, isEight, DamagedPair}
 use Rattle.protocol.specs.declared.Drive.{Drive}
 
 -- the slots of two ends that are started together, in numbers

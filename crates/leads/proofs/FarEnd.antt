@@ -149,7 +149,7 @@ module _ (d : ℕ) (s : Shape) (x : ℕ) (sender : Endpoint) (hs : ℕ → ℕ) 
           slots = slots;
           within = omega (arith, found .within);
           out = subst (OutTwice _ leads) z (record { last = out-last; before = out-before });
-          stands = stand;
+          stands = λ u lo hi. stand u (omega arith) (omega arith);
         }
 
   leads-stand : LeadsStand d s x sender hs gs receiver hr gr

@@ -187,5 +187,8 @@ module _ (e : Endpoint) (heard : ℕ → ℕ) (given : ℕ → Drive) (kept : (t
   units-go =
       record {
         one = λ a b c ab bc x y z no-other. one-takes a b c ab bc no-other (some-takes a b c ab bc x y z);
-        some = some-takes;
+        some =
+            λ a b c ab bc x y z.
+            let t = some-takes a b c ab bc x y z in
+            record { slot = t .slot; after = omega (arith, t .after); by = omega (arith, t .by); asks = t .asks; takes = t .takes };
       }

@@ -15,13 +15,13 @@ use Rattle.protocol.specs.Slot.{started, outcomeOf}
 use Rattle.protocol.specs.Call.{standsAt}
 use Rattle.protocol.specs.Pair.{MayJoin, JoinedPair, Concludes, BothRefuse}
 use Rattle.protocol.specs.Joined.{Joined, idle, joinedSlot}
-use Rattle.protocol.specs.Undamaged.{joinedAt, hearsO, hearsA}
+use Rattle.premises.specs.Undamaged.{joinedAt, hearsO, hearsA}
 use Rattle.protocol.specs.declared.Drive.{Drive}
 use Rattle.protocol.specs.declared.Outcome.{Outcome}
 use Rattle.protocol.specs.declared.Outcome.the-variants.{Exchanging, Open, Refused}
-use Rattle.protocol.proofs.Existence.UndamagedCalls.{end-o, end-a}
+use Rattle.premises.proofs.UndamagedCalls.{end-o, end-a}
 use Rattle.protocol.proofs.Calls.EndsByLimit.{ends-by-limit}
-use Rattle.protocol.proofs.Existence.PairExists.{pair-exists}
+use Rattle.premises.proofs.PairExists.{pair-exists}
 use Rattle.protocol.proofs.Chain.PairConcludes.{no-version, both-open, no-profile}
 use Rattle.pair.specs.Running.{hasConcluded, bothConcluded, ranFor}
 use Rattle.pair.specs.Join.{ranOf, standsOf}

@@ -9,7 +9,7 @@ use Rattle.protocol.specs.Schedule.{meets, lacksO, lacksA, concludesO, conclude
 use Rattle.protocol.specs.Slot.{started}
 use Rattle.protocol.specs.Pair.{MayJoin, ProfileIn, OpenSince, sharedVersion}
 use Rattle.protocol.specs.Joined.{Joined, idle}
-use Rattle.protocol.specs.Undamaged.{joinedAt}
+use Rattle.premises.specs.Undamaged.{joinedAt}
 use Rattle.protocol.specs.declared.Outcome.{Outcome}
 use Rattle.protocol.specs.declared.Outcome.the-variants.{Refused}
 use Rattle.pair.specs.Running.{bothConcluded}

@@ -4,5 +4,4 @@ pub mod Kept
 pub mod Calls
 pub mod Chain
 pub mod Delivery
-pub mod Existence
 pub mod Figures

@@ -12,10 +12,6 @@ pub mod Concluding
 pub mod Votes
 pub mod Damage
 pub mod Pair
-pub mod Stretch
 pub mod Carried
 pub mod Delivery
 pub mod Joined
-pub mod Undamaged
-pub mod PlainPair
-pub mod OneCopyWrong

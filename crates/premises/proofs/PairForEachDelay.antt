@@ -9,13 +9,13 @@ use borrow.Author.Tests.{le-ltb}
 use Rattle.book.specs.Book.{originating, answering, noEntry, paramsOf}
 use Rattle.book.specs.Refusals.{valuesFault, seenIn, entryFault, eachFault, entriesFault}
 use Rattle.book.specs.Kept.{allNone, isPadded, bookOk}
 use Rattle.protocol.specs.Lengths.{parameterLead}
 use Rattle.protocol.specs.Exchange.{entryOf}
 use Rattle.protocol.specs.Slot.{started}
 use Rattle.protocol.specs.Pair.{OfBytes, MayJoin, JoinedPair}
-use Rattle.protocol.specs.Undamaged.{hearsO, hearsA}
-use Rattle.protocol.specs.PlainPair.{plainBook, plainDrive}
-use Rattle.protocol.proofs.Existence.PairExists.{pair-exists}
+use Rattle.premises.specs.Undamaged.{hearsO, hearsA}
+use Rattle.premises.specs.PlainPair.{plainBook, plainDrive}
+use Rattle.premises.proofs.PairExists.{pair-exists}
 
 plain-accepted : (d role : ℕ) → 1 ≤ d → role < 2 → bookOk (plainBook d role) ≡ true
 unfolding bookOk valuesFault entriesFault eachFault entryFault seenIn isPadded allNone

@@ -12,16 +12,16 @@ use Rattle.channel.specs.Bytes.{sgidle}
 use Rattle.channel.specs.Forms.{unitByte, arrivesAs}
 use Rattle.channel.specs.declared.unit.Form.{Form}
 use Rattle.channel.specs.declared.unit.Form.the-variants.{Six, SevenV1, SevenV2, Eight}
 use Rattle.protocol.specs.Sent.{Silence, groupByte, byteSent}
 use Rattle.protocol.specs.Ranges.{wellFormed}
 use Rattle.protocol.specs.Slot.{started, step, stepOf, offerAllowed, passes, refuses, slotStep, slotOf}
 use Rattle.protocol.specs.Call.{endAt, sentAt}
 use Rattle.protocol.specs.Damage.{GroupArrives, Arrives}
 use Rattle.protocol.specs.Joined.{Joined, byteOf, arriving, joined, joinedSlot}
-use Rattle.protocol.specs.Undamaged.{joinedAt, hearsO, hearsA}
+use Rattle.premises.specs.Undamaged.{joinedAt, hearsO, hearsA}
 use Rattle.protocol.specs.declared.Endpoint.{Endpoint}
 use Rattle.protocol.specs.declared.Drive.{Drive}
-use Rattle.protocol.proofs.Existence.WithinDamage.{Within, copy-as-sent, line-arrives}
+use Rattle.premises.proofs.WithinDamage.{Within, copy-as-sent, line-arrives}
 
 -- what is sent, arriving as it was sent, is within the allowed damage
 unit-as-sent : (f : Form) (b : ℕ) → arrivesAs f b b

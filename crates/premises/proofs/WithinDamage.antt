@@ -14,10 +14,10 @@ use Rattle.channel.specs.Kinds.{nibbleIn}
 use Rattle.channel.specs.Forms.{unitByte, arrivesAs}
 use Rattle.channel.specs.Vote.{asSent}
 use Rattle.channel.specs.declared.unit.Form.{Form}
 use Rattle.protocol.specs.Sent.{Sent, Alone, Part, Unit}
 use Rattle.protocol.specs.Damage.{GroupArrives, Arrives}
 use Rattle.protocol.specs.Joined.{arriving}
-use Rattle.protocol.proofs.Existence.DelayLine.{arrives-early, arrives-late}
+use Rattle.premises.proofs.DelayLine.{arrives-early, arrives-late}
 
 -- A copy whose nibbles are those sent has every bit as sent. Only the bits 0 to 7 of a value are sent.
 

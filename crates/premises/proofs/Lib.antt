@@ -1,4 +1,4 @@
--- Existence: the premises of the joined pair are met, for any books that may be joined, any drives and every delay.
+-- The premises of the joined pair are met, for any books that may be joined, any drives and every delay.
 --
 -- UndamagedCalls: the ends of the undamaged pair hear what the other sent d slots before (DelayLine). WithinDamage: that is allowed damage.
 -- OffersAllowed: what may be offered so that 12 refuses nothing. So a pair exists (PairExists), and for every delay there are books

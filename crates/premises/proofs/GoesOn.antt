@@ -14,19 +14,19 @@ use Rattle.book.specs.declared.Book.{Book}
 use Rattle.channel.specs.Bytes.{sgidle}
 use Rattle.channel.specs.Forms.{unitByte, arrivesAs}
 use Rattle.channel.specs.declared.unit.Form.{Form}
 use Rattle.protocol.specs.Sent.{Sent, Alone, Part, Unit, byteSent}
 use Rattle.protocol.specs.Slot.{started, slotStep, slotOf, offerAllowed}
 use Rattle.protocol.specs.Call.{endAt, sentAt, Allowed}
 use Rattle.protocol.specs.Damage.{GroupArrives, Arrives}
 use Rattle.protocol.specs.Joined.{Joined, idle, arriving, joined}
-use Rattle.protocol.specs.Stretch.{ArrivesUpTo, AllowedUpTo, JoinedUpTo, GoesOn}
+use Rattle.premises.specs.Stretch.{ArrivesUpTo, AllowedUpTo, JoinedUpTo, GoesOn}
 use Rattle.protocol.specs.declared.Endpoint.{Endpoint}
 use Rattle.protocol.specs.declared.Drive.{Drive}
 use Rattle.protocol.proofs.Calls.CallDetermined.{call-determined, sent-determined}
-use Rattle.protocol.proofs.Existence.DelayLine.{arrives-early, arrives-late}
-use Rattle.protocol.proofs.Existence.WithinDamage.{group-at, group-moved}
-use Rattle.protocol.proofs.Existence.UndamagedCalls.{as-sent, end-is}
-use Rattle.protocol.proofs.Existence.OffersAllowed.{nothing-allowed}
+use Rattle.premises.proofs.DelayLine.{arrives-early, arrives-late}
+use Rattle.premises.proofs.WithinDamage.{group-at, group-moved}
+use Rattle.premises.proofs.UndamagedCalls.{as-sent, end-is}
+use Rattle.premises.proofs.OffersAllowed.{nothing-allowed}
 
 -- the one before slot n, and the other from it on
 module _ {A : Type 0} (n : ℕ) (f g : ℕ → A) where

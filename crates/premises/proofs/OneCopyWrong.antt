@@ -15,10 +15,10 @@ use Rattle.channel.specs.Forms.{unitByte, arrivesAs}
 use Rattle.channel.specs.Vote.{asSent}
 use Rattle.channel.specs.declared.unit.Form.{Form}
 use Rattle.channel.specs.declared.unit.Form.the-variants.{Six, SevenV1, SevenV2, Eight}
 use Rattle.protocol.specs.Sent.{Sent, Silence, Alone, Part, Unit, groupByte, byteSent}
 use Rattle.protocol.specs.Damage.{copyHeard, GroupArrives, Arrives}
-use Rattle.protocol.specs.OneCopyWrong.{inverted, b8Inverted, nibbleInverted, unitDamaged, inSecondCopy, partDamaged, damaged, isEight}
-use Rattle.protocol.proofs.Existence.WithinDamage.{low-bit, dl-low, dh-low, Within, copy-as-sent, arrives}
+use Rattle.premises.specs.OneCopyWrong.{inverted, b8Inverted, nibbleInverted, unitDamaged, inSecondCopy, partDamaged, damaged, isEight}
+use Rattle.premises.proofs.WithinDamage.{low-bit, dl-low, dh-low, Within, copy-as-sent, arrives}
 
 b8-half : (b : ℕ) → b8Inverted b / 2 ≡ b / 2
 unfolding b8Inverted

@@ -2,15 +2,15 @@
 -- much damage. Assumes nothing.
 use Prim.Native.Nat.{ℕ}
 use Rattle.book.specs.declared.Book.{Book}
 use Rattle.protocol.specs.Slot.{started}
 use Rattle.protocol.specs.Call.{Allowed, OffersNothing, OffersFit}
 use Rattle.protocol.specs.Pair.{MayJoin, JoinedPair}
-use Rattle.protocol.specs.Undamaged.{hearsO, hearsA}
-use Rattle.protocol.specs.OneCopyWrong.{DamagedPair}
+use Rattle.premises.specs.Undamaged.{hearsO, hearsA}
+use Rattle.premises.specs.OneCopyWrong.{DamagedPair}
 use Rattle.protocol.specs.declared.Drive.{Drive}
-use Rattle.protocol.proofs.Existence.OffersAllowed.{offers-nothing-allowed, offers-fit-allowed}
-use Rattle.protocol.proofs.Existence.UndamagedCalls.{to-o, to-a}
-use Rattle.protocol.proofs.Existence.DamagedCalls as much
+use Rattle.premises.proofs.OffersAllowed.{offers-nothing-allowed, offers-fit-allowed}
+use Rattle.premises.proofs.UndamagedCalls.{to-o, to-a}
+use Rattle.premises.proofs.DamagedCalls as much
 
 module _ (d : ℕ) (bo ba : Book) (go ga : ℕ → Drive) (books : MayJoin d bo ba) where
   abbrev ho : ℕ → ℕ

@@ -4,17 +4,17 @@ use mathlib.Core.Path.{_≡_, refl, sym, ap}
 use mathlib.Core.List.{[], _∷_, _++_}
 use Prim.Native.Nat.{ℕ, zero, suc, _+_, _≤_}
 use lib.ListN.{drop}
 use Rattle.protocol.specs.Slot.{slotStep, slotOf}
 use Rattle.protocol.specs.Call.{sentAt}
 use Rattle.protocol.specs.Damage.{Arrives}
 use Rattle.protocol.specs.Joined.{Joined, arriving, joined}
-use Rattle.protocol.specs.OneCopyWrong.{damaged}
+use Rattle.premises.specs.OneCopyWrong.{damaged}
 use Rattle.protocol.specs.declared.Endpoint.{Endpoint}
 use Rattle.protocol.specs.declared.Drive.{Drive}
-use Rattle.protocol.proofs.Existence.DelayLine.{arrives-late}
-use Rattle.protocol.proofs.Existence.WithinDamage.{line-arrives}
-use Rattle.protocol.proofs.Existence.UndamagedCalls.{end-is}
-use Rattle.protocol.proofs.Existence.OneCopyWrong.{damaged-within}
+use Rattle.premises.proofs.DelayLine.{arrives-late}
+use Rattle.premises.proofs.WithinDamage.{line-arrives}
+use Rattle.premises.proofs.UndamagedCalls.{end-is}
+use Rattle.premises.proofs.OneCopyWrong.{damaged-within}
 
 -- a slot of the pair, as of the undamaged one but for what arrives
 damagedSlot : Drive → Drive → Joined → Joined

@@ -1,0 +1,4 @@
+pub mod Stretch
+pub mod Undamaged
+pub mod PlainPair
+pub mod OneCopyWrong

@@ -1,0 +1,1 @@
+// No code: that the premises of the joined pair are met.
