@@ -54,7 +54,7 @@ use Rattle.script.proofs.Samples.{ScriptFigures, script-figures}
 use Rattle.leads.specs.LeadsAhead.{LeadsAhead}
 use Rattle.leads.proofs.LeadsAhead.{leads-ahead}
 use Rattle.leads.proofs.Exact.{Exact, exact}
-use Rattle.claims.proofs.WholeRuns.{WholeRuns, whole-runs}
+use Rattle.premises.proofs.WholeRuns.{WholeRuns, whole-runs}
 
 -- Bytes on the channel, forms of data, the vote and the version.
 pub record ChannelHeld : Type 0 where

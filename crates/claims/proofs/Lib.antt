@@ -6,5 +6,4 @@ pub mod OneEnd
 pub mod JoinedPair
 pub mod Demands
 pub mod Programs
-pub mod WholeRuns
 pub mod Figures
