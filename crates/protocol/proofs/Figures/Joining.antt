@@ -1,5 +1,5 @@
 -- The worked figures of the joined pair, and the sample of a run, by computation. Of the runs to an end that opens one is here; the others are
--- in `claims` (WholeRuns), where fewer must-fail edits prove them again. Assumes nothing.
+-- in `premises` (WholeRuns), where fewer must-fail edits prove them again. Assumes nothing.
 use mathlib.Core.Path.{_≡_, refl}
 use mathlib.Core.Bool.{true, false}
 use mathlib.Core.List.{List, [], _∷_, _++_}
