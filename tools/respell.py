@@ -42,6 +42,7 @@ TYPES = {"arrivesAs": "ArrivesAs"}
 DECLARED = re.compile(
     r"^\s*(?:(?:pub|abbrev|unfoldable|pattern|ruleset|record|data)\s+)*([^\s:(){},;=.]+)(?:\s+[\({][^:]*:[^\)}]*[\)}])*\s*(?::\s|=\s|$|\()"
 )
+OF_THE_KIT = re.compile(r"^(?:use|ghost use) (?:mathlib|Prim|native|lib|borrow|types|denote|Rattle\.std)\b[^{\n]*\{([^}]*)\}", re.M)
 CAMEL = re.compile(r"[a-z][A-Za-z0-9_']*[A-Z][A-Za-z0-9_']*")
 MADE_BY_RATTLE = re.compile(r"proofs/.+/(?:Proof|Answers|Invariants)\.antt$")
 TOKEN = re.compile(r"[^\s(){}\[\],;.:\"@`«»/|]+")
@@ -76,16 +77,17 @@ def snake(name):
 
 def names_of(texts):
     """What each own name becomes."""
-    declared, camels = set(), set()
+    declared, camels, kit = set(), set(), set()
     for path, text in texts.items():
         if not path.endswith(".antt"):
             continue
+        kit |= {name.strip() for names in OF_THE_KIT.findall(text) for name in names.split(",")}
         camels |= {t for t in TOKEN.findall(text) if CAMEL.fullmatch(t)}
         if not MADE_BY_RATTLE.search(path):
             declared |= {m.group(1) for m in (DECLARED.match(line) for line in text.splitlines()) if m}
     to = {name: snake(name) for name in camels}
     plain = {name for name in declared if re.fullmatch(r"[a-z][a-z0-9_']*", name)}
-    taken = set(to.values()) | plain
+    taken = set(to.values()) | plain | kit
     lemmas = {}
     for name in declared:
         if "-" in name and name not in KIT and re.match(r"[A-Za-z]", name):
@@ -120,16 +122,17 @@ def snake(name):
 
 def names_of(texts):
     """What each own name becomes."""
-    declared, camels = set(), set()
+    declared, camels, kit = set(), set(), set()
     for path, text in texts.items():
         if not path.endswith(".antt"):
             continue
+        kit |= {name.strip() for names in OF_THE_KIT.findall(text) for name in names.split(",")}
         camels |= {t for t in TOKEN.findall(text) if CAMEL.fullmatch(t)}
         if not MADE_BY_RATTLE.search(path):
             declared |= {m.group(1) for m in (DECLARED.match(line) for line in text.splitlines()) if m}
     to = {name: snake(name) for name in camels}
     plain = {name for name in declared if re.fullmatch(r"[a-z][a-z0-9_']*", name)}
-    taken = set(to.values()) | plain
+    taken = set(to.values()) | plain | kit
     lemmas = {}
     for name in declared:
         if "-" in name and name not in KIT and re.match(r"[A-Za-z]", name):
@@ -203,16 +206,17 @@ def snake(name):
 
 def names_of(texts):
     """What each own name becomes."""
-    declared, camels = set(), set()
+    declared, camels, kit = set(), set(), set()
     for path, text in texts.items():
         if not path.endswith(".antt"):
             continue
+        kit |= {name.strip() for names in OF_THE_KIT.findall(text) for name in names.split(",")}
         camels |= {t for t in TOKEN.findall(text) if CAMEL.fullmatch(t)}
         if not MADE_BY_RATTLE.search(path):
             declared |= {m.group(1) for m in (DECLARED.match(line) for line in text.splitlines()) if m}
     to = {name: snake(name) for name in camels}
     plain = {name for name in declared if re.fullmatch(r"[a-z][a-z0-9_']*", name)}
-    taken = set(to.values()) | plain
+    taken = set(to.values()) | plain | kit
     lemmas = {}
     for name in declared:
         if "-" in name and name not in KIT and re.match(r"[A-Za-z]", name):

@@ -1,4 +1,6 @@
 // The book that configures a unit: its bytes are read and kept, or refused by number, and a kept book is checked again.
+#![tactic(auto)]
+
 ghost use Rattle.std.specs.Prelude.{◌≡◌, ◌+◌};
 ghost use Rattle.book.specs.Reading.{fault_of, number_of, offset_of, refuses, read_book, entry_part, part_at};
 ghost use Rattle.book.specs.Refusals.{book_no, book_offset};
@@ -14,7 +16,7 @@ pub const ANSWERING: u8 = 1;
 pub const MOST_ENTRIES: usize = 8;
 
 // One profile: five parameters, the form of data, and the word's width in form 0.
-#[derive(Drop)]
+#[derive(Clone, Copy)]
 pub struct Entry {
     pub p0: u8,
     pub p1: u8,
@@ -26,7 +28,7 @@ pub struct Entry {
 }
 
 // The kept book. Past the n entries stand entries of zeros.
-#[derive(Drop)]
+#[derive(Clone, Copy)]
 pub struct Book {
     pub role: u8,
     pub mask: u8,
@@ -36,20 +38,20 @@ pub struct Book {
 }
 
 // What is wrong: the number of refusal, and the offset of the first offending byte. Number 0 where nothing is wrong.
-#[derive(Drop)]
+#[derive(Clone, Copy)]
 pub struct Fault {
     pub number: u8,
     pub offset: usize,
 }
 
-#[derive(Drop)]
+#[derive(Clone, Copy)]
 pub enum Verdict {
     Accepted,
     Refused(Fault),
 }
 
 // The verdict, with the kept book where it accepts, and zeros where it refuses.
-#[derive(Drop)]
+#[derive(Clone, Copy)]
 pub struct BookRead {
     pub verdict: Verdict,
     pub book: Book,

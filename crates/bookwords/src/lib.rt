@@ -1,4 +1,6 @@
 // What a person is told of a book: the first fault, or what the book says, line by line.
+#![tactic(auto)]
+
 ghost use Rattle.std.specs.Prelude.{◌≡◌, true, ◌^◌, ◌<◌, min, length};
 ghost use Rattle.book.specs.Kept.{book_ok};
 ghost use Rattle.text.specs.Output.{over};

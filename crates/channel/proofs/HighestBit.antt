@@ -11,7 +11,7 @@ use Rattle.ground.proofs.Test.{same_flag}
 use Rattle.ground.proofs.Each.{up_to, each, each_eq}
 use Rattle.channel.specs.Versions.{both_have, highest_up_to, highest, shared}
 use Rattle.channel.specs.declared.version.Shared.TheVariants.{Version, Nothing}
-use Rattle.channel.proofs.BitByBit.{bit_and}
+use Rattle.channel.proofs.BitByBit.{bit_and_lem}
 
 -- how many of the bits' values a mask reaches
 abbrev pub reached : ℕ → ℕ
@@ -32,7 +32,7 @@ of_bits x y p q =
     (each (λ x. up_to (λ y. beq (eqb (bit_and x y) 1 && eqb (bit_and x y) 1) (eqb x 1 && eqb y 1)) 2) 2 tt x p) y q)
 
 have_and : (i a b : ℕ) → both_have i (bit_and a b) (bit_and a b) ≡ both_have i a b
-have_and i a b = rw (bit_and i a b) (of_bits (bit i a) (bit i b) (omega arith) (omega arith))
+have_and i a b = rw (bit_and_lem i a b) (of_bits (bit i a) (bit i b) (omega arith) (omega arith))
 
 up_to_and : (n a b : ℕ) → highest_up_to n (bit_and a b) (bit_and a b) ≡ highest_up_to n a b
 unfolding highest_up_to

@@ -10,7 +10,7 @@ use Rattle.ground.specs.Digits.{val, bit}
 use Rattle.ground.proofs.Each.{up_to, each, each_eq}
 use Rattle.ground.proofs.Test.{either_way}
 use Rattle.channel.specs.Vote.{majority, majorities, voted}
-use Rattle.channel.proofs.BitByBit.{bit_zero, bit_next, bit_and, bit_or, and_byte, or_byte}
+use Rattle.channel.proofs.BitByBit.{bit_zero, bit_next, bit_and_lem, bit_or_lem, and_byte, or_byte}
 
 from_bits : (n a b c r : ℕ) → r < 2 ^ n → ((i : ℕ) → i < n → bit i r ≡ majority (bit i a) (bit i b) (bit i c))
     → r ≡ val 2 (majorities n a b c)
@@ -59,5 +59,5 @@ of_bits x y z p q r =
 pub whole_bytes : (a b c : ℕ) → a < 256 → b < 256 → c < 256 → bit_or (bit_or (bit_and a b) (bit_and a c)) (bit_and b c) ≡ voted a b c
 whole_bytes a b c p q r =
     vote_by_bits a b c _ (or_byte (or_byte (and_byte p q) (and_byte p r)) (and_byte q r))
-    (λ i h. rw (bit_or i (bit_or (bit_and a b) (bit_and a c)) (bit_and b c), bit_or i (bit_and a b) (bit_and a c), bit_and i a b, bit_and i a c, bit_and i b c)
+    (λ i h. rw (bit_or_lem i (bit_or (bit_and a b) (bit_and a c)) (bit_and b c), bit_or_lem i (bit_and a b) (bit_and a c), bit_and_lem i a b, bit_and_lem i a c, bit_and_lem i b c)
     (of_bits (bit i a) (bit i b) (bit i c) (omega arith) (omega arith) (omega arith)))

@@ -3,11 +3,11 @@ ghost use Rattle.std.specs.Prelude.{◌≡◌, cond, ◌≤◌};
 ghost use Rattle.channel.specs.Bytes.{byte, signalling, sd_byte, dl_byte, dh_byte};
 
 // A byte as it goes on the channel. B1 goes first and is the top bit.
-#[derive(Drop)]
+#[derive(Clone, Copy)]
 pub struct ChannelByte(pub u8);
 
 // The leads s0 to s3.
-#[derive(Drop)]
+#[derive(Clone, Copy)]
 pub struct Leads {
     pub s0: bool,
     pub s1: bool,

@@ -7,7 +7,7 @@ use crate::byte::{ChannelByte, Leads};
 use crate::kind_table::row;
 
 // What a received byte is during the exchange. B8 is ignored.
-#[derive(Drop)]
+#[derive(Clone, Copy)]
 pub enum Kind {
     Sgvi,
     // Sgp0 to Sgp4

@@ -7,7 +7,7 @@ ghost use Rattle.channel.specs.Answers.{says_encoded, says_encoded_word, says_de
 use crate::byte::ChannelByte;
 
 // A form whose unit is one byte: form 6, form 7 on version 1, form 7 on version 2, form 8.
-#[derive(Drop)]
+#[derive(Clone, Copy)]
 pub enum Form {
     Six,
     SevenV1,
@@ -15,19 +15,19 @@ pub enum Form {
     Eight,
 }
 
-#[derive(Drop)]
+#[derive(Clone, Copy)]
 pub enum Encoded {
     Byte(ChannelByte),
     OutOfRange,
 }
 
-#[derive(Drop)]
+#[derive(Clone, Copy)]
 pub enum Decoded {
     Unit(u8),
     NoData,
 }
 
-#[derive(Drop)]
+#[derive(Clone, Copy)]
 pub enum EncodedWord {
     Pair(ChannelByte, ChannelByte),
     OutOfRange,

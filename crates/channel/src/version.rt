@@ -3,7 +3,7 @@ ghost use Rattle.std.specs.Prelude.{◌≡◌, cond, ◌≤◌, leb};
 ghost use Rattle.channel.specs.Versions.{shared, highest};
 ghost use Rattle.channel.specs.Answers.{says_shared, shared_in_numbers};
 
-#[derive(Drop)]
+#[derive(Clone, Copy)]
 pub enum Shared {
     Version(u8),
     Nothing,

@@ -1,4 +1,6 @@
 // What every program does with its input and its output: it reads all of the one, and tells where one of them failed.
+#![tactic(auto)]
+
 ghost use Rattle.std.specs.Prelude.{length, ◌≡◌};
 ghost use Rattle.text.specs.Text.{text};
 ghost use Rattle.console.specs.Reading.{Within, came_of};
@@ -7,7 +9,7 @@ ghost use Rattle.console.specs.Telling.{told_of};
 use text::{Text, empty, word};
 
 // How many bytes stand at the start of the buffer, or that a read failed.
-#[derive(Drop)]
+#[derive(Clone, Copy)]
 pub enum Input {
     Failed,
     Read(usize),
@@ -50,7 +52,7 @@ fn came(got: isize, buf: &[u8]) -> Input
 }
 
 // What a program could not do.
-#[derive(Drop)]
+#[derive(Clone, Copy)]
 pub enum Failure {
     NotRead,
     NotWritten,

@@ -22,7 +22,7 @@ use reading::reading;
 use writing::{first_written, writing};
 
 // An end but for its book, which no slot changes, and which is therefore not carried through a slot.
-#[derive(Drop)]
+#[derive(Clone, Copy)]
 pub(crate) struct Rest {
     pub(crate) nibbles: [u8; 6],
     pub(crate) values: [u8; 6],
@@ -30,7 +30,7 @@ pub(crate) struct Rest {
 }
 
 // What a slot brings: the end but for its book, the byte sent, what is delivered, and whether the offered unit is taken.
-#[derive(Drop)]
+#[derive(Clone, Copy)]
 pub(crate) struct StepMade {
     pub(crate) rest: Rest,
     pub(crate) sent: ChannelByte,

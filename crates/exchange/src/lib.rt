@@ -1,4 +1,6 @@
 // The exchange of versions and parameters.
+#![tactic(auto)]
+
 mod acting; // acting.rt: what the received byte does
 mod answering; // answering.rt: what an answerer does by itself
 mod matching; // matching.rt: the entry that has the other end's parameters

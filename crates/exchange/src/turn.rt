@@ -20,7 +20,7 @@ use collecting::kept_book::originates;
 use protocol::{Awaited, Exchange, Fate, Hearing, Match, Sending};
 
 // One slot of the exchange: the state after it, what becomes of the exchange, and the byte sent.
-#[derive(Drop)]
+#[derive(Clone, Copy)]
 pub struct TurnMade {
     pub exchange: Exchange,
     pub fate: Fate,

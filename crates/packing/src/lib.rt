@@ -1,11 +1,13 @@
 // Octets packed into units of k bits, least bit first, and units unpacked into octets, for the forms k = 6, 7 and 8.
+#![tactic(auto)]
+
 ghost use Rattle.std.specs.Prelude.{◌≡◌, true, ◌^◌, ◌<◌, ◌≤◌, length};
 ghost use Rattle.ground.specs.Digits.{all_below};
 ghost use Rattle.packing.specs.FormsOfData.{bits_of, grouped, units_for, octets_in};
 ghost use Rattle.packing.specs.NumbersOfRefusal.{Answer, not_packed, out_of_range, not_whole, room_refusal, Packs, Unpacks};
 
 // What packing and unpacking answer.
-#[derive(Drop)]
+#[derive(Clone, Copy)]
 pub enum Reply {
     // so many units or octets stand in the buffer from the named place on
     Wrote(usize),

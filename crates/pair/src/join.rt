@@ -11,7 +11,7 @@ use endpoint::start::start;
 use protocol::{Endpoint, Outcome};
 
 // How two books join.
-#[derive(Drop)]
+#[derive(Clone, Copy)]
 pub enum Joining {
     // the delay is 0, or, in a report, the input too short or too long
     InputRefused,

@@ -1,4 +1,6 @@
 // Two ends joined by a channel that does no damage.
+#![tactic(auto)]
+
 pub mod join;
 pub mod report;
 mod running;

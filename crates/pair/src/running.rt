@@ -13,7 +13,7 @@ use protocol::{Endpoint, Outcome, Reply, SlotAnswer};
 const LONGEST_DELAY: usize = 255;
 
 // Both ends, and the bytes on their way back to O and forth to A, each in a ring: the one that arrives next stands at the place next.
-#[derive(Drop)]
+#[derive(Clone, Copy)]
 pub(crate) struct Pair {
     pub(crate) o: Endpoint,
     pub(crate) a: Endpoint,

@@ -1,1 +1,3 @@
 // No code: that the premises of the joined pair are met.
+#![tactic(auto)]
+

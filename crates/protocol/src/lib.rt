@@ -1,10 +1,12 @@
 // The types of one end of a call. No code: what a slot does is defined in specs/.
+#![tactic(auto)]
+
 use book::{Book, Entry, Verdict};
 use channel::byte::{ChannelByte, Leads};
 use channel::unit::Form;
 
 // What is awaited in the exchange. Item 0 is the identifier, item k + 1 is parameter k.
-#[derive(Drop)]
+#[derive(Clone, Copy)]
 pub enum Awaited {
     // the run for an item, of which so many bytes have come
     Run { item: u8, count: u8 },
@@ -15,7 +17,7 @@ pub enum Awaited {
 }
 
 // What is sent in the exchange.
-#[derive(Drop)]
+#[derive(Clone, Copy)]
 pub enum Sending {
     // Sdidle
     Idle,
@@ -30,28 +32,28 @@ pub enum Sending {
 }
 
 // A nibble that may be held.
-#[derive(Drop)]
+#[derive(Clone, Copy)]
 pub enum Half {
     Empty,
     Holds(u8),
 }
 
 // How the data of an open end is laid: words of so many bits, or units of one byte.
-#[derive(Drop)]
+#[derive(Clone, Copy)]
 pub enum Shape {
     Word(u8),
     Unit(Form),
 }
 
 // What an Sd carries.
-#[derive(Drop)]
+#[derive(Clone, Copy)]
 pub struct Signals {
     pub leads: Leads,
     pub bk: bool,
 }
 
 // Who has a claim on the line, after the first bytes, in forms 0 and 6.
-#[derive(Drop)]
+#[derive(Clone, Copy)]
 pub enum Claim {
     // nobody: leads that changed may claim it
     Free,
@@ -62,7 +64,7 @@ pub enum Claim {
 }
 
 // The sending half of an open end.
-#[derive(Drop)]
+#[derive(Clone, Copy)]
 pub struct Outbound {
     // how many of the first bytes have gone: 16 Sd, and in forms 7 and 8 the pair
     pub opening: u8,
@@ -75,7 +77,7 @@ pub struct Outbound {
 }
 
 // The receiving half of an open end.
-#[derive(Drop)]
+#[derive(Clone, Copy)]
 pub struct Inbound {
     // the low nibble whose DL has just come, in form 0
     pub half: Half,
@@ -87,7 +89,7 @@ pub struct Inbound {
 }
 
 // An open end.
-#[derive(Drop)]
+#[derive(Clone, Copy)]
 pub struct Line {
     pub outbound: Outbound,
     pub inbound: Inbound,
@@ -95,7 +97,7 @@ pub struct Line {
 
 // One phase at a time. The slot of the exchange is the number of slots since the start; of an open or refused end, the slot in
 // which it opened or refused.
-#[derive(Drop)]
+#[derive(Clone, Copy)]
 pub enum Phase {
     Exchanging {
         slot: u16,
@@ -116,7 +118,7 @@ pub enum Phase {
 }
 
 // One end of a call.
-#[derive(Drop)]
+#[derive(Clone, Copy)]
 pub struct Endpoint {
     pub book: Book,
     // the nibbles of the group in hand, zeros past them
@@ -127,7 +129,7 @@ pub struct Endpoint {
 }
 
 // What has come in the exchange.
-#[derive(Drop)]
+#[derive(Clone, Copy)]
 pub struct Hearing {
     pub awaited: Awaited,
     pub nibbles: [u8; 6],
@@ -135,7 +137,7 @@ pub struct Hearing {
 }
 
 // The state of the exchange but for its clock. The version is 0 until it is settled, and where none is shared.
-#[derive(Drop)]
+#[derive(Clone, Copy)]
 pub struct Exchange {
     pub hearing: Hearing,
     pub version: u8,
@@ -143,14 +145,14 @@ pub struct Exchange {
 }
 
 // The entry that has certain parameters.
-#[derive(Drop)]
+#[derive(Clone, Copy)]
 pub enum Match {
     Entry(u8),
     Nothing,
 }
 
 // What becomes of the exchange in a slot.
-#[derive(Drop)]
+#[derive(Clone, Copy)]
 pub enum Fate {
     Stays,
     // opened by the received byte, or by the own last byte, on an entry
@@ -159,28 +161,28 @@ pub enum Fate {
     Refuses(u8),
 }
 
-#[derive(Drop)]
+#[derive(Clone, Copy)]
 pub enum Offer {
     Nothing,
     Unit(u8),
 }
 
 // What a slot is given besides the received byte.
-#[derive(Drop)]
+#[derive(Clone, Copy)]
 pub struct Drive {
     pub leads: Leads,
     pub flag: bool,
     pub offer: Offer,
 }
 
-#[derive(Drop)]
+#[derive(Clone, Copy)]
 pub enum Delivered {
     Nothing,
     Unit(u8),
 }
 
 // Where an end stands. Its profile is the entry that it opened on; its signals are the leads and BK received, as they stand.
-#[derive(Drop)]
+#[derive(Clone, Copy)]
 pub enum Outcome {
     Exchanging,
     Open {
@@ -195,7 +197,7 @@ pub enum Outcome {
     },
 }
 
-#[derive(Drop)]
+#[derive(Clone, Copy)]
 pub enum Reply {
     // the slot is refused under this number, and has not passed
     Refused(u8),
@@ -207,14 +209,14 @@ pub enum Reply {
     },
 }
 
-#[derive(Drop)]
+#[derive(Clone, Copy)]
 pub struct SlotAnswer {
     pub state: Endpoint,
     pub reply: Reply,
 }
 
 // What a lent book starts: the verdict, and the end before slot 0; beside a refusal, the end of a book of zeros.
-#[derive(Drop)]
+#[derive(Clone, Copy)]
 pub struct Start {
     pub verdict: Verdict,
     pub state: Endpoint,

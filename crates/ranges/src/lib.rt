@@ -1,4 +1,6 @@
 // The ranges behind refusal 13: a count, position or value outside the range that its phase, role and book allow.
+#![tactic(auto)]
+
 ghost use Rattle.std.specs.Prelude.{◌≡◌, ◌&&◌, ◌+◌, ◌-◌, ◌*◌, eqb, ltb, leb, drop};
 ghost use Rattle.ground.specs.Digits.{bit, all_below};
 ghost use Rattle.channel.specs.Forms.{word_fits};

@@ -1,4 +1,6 @@
 // What an open end reads and delivers.
+#![tactic(auto)]
+
 ghost use Rattle.std.specs.Prelude.{◌≡◌, cond, ◌&&◌, eqb};
 ghost use Rattle.protocol.specs.Opened.{agreed, agreed_signals, reads, reads_sd, quiet, word_with, reads_word, reads_idle, reads_six, reads_pair, reads_stream, reads_form, reading};
 ghost use Rattle.protocol.specs.Answers.{says_delivered, delivers_of};
@@ -13,7 +15,7 @@ use opened::shape::pair_form;
 use protocol::{Delivered, Half, Inbound, Shape, Signals};
 
 // What a received byte makes of the receiving half, and what it delivers.
-#[derive(Drop)]
+#[derive(Clone, Copy)]
 pub struct ReadingMade {
     pub inbound: Inbound,
     pub delivered: Delivered,

@@ -1,4 +1,6 @@
 // samples: runs the samples of document 01 that are to be run, and of its requests, and tells what came beside what is said.
+#![tactic(auto)]
+
 use book::{number, offset, read_book};
 use channel::byte::ChannelByte;
 use console::{Failure, Input, read_all, tell};

@@ -1,4 +1,6 @@
 // One end, driven by a script: what is said of each slot.
+#![tactic(auto)]
+
 ghost use Rattle.std.specs.Prelude.{◌≡◌, false, ◌≤◌, min, length, drop};
 ghost use Rattle.text.specs.Text.{text};
 ghost use Rattle.text.specs.Ascii.{ascii};

@@ -1,4 +1,6 @@
 // tbook: reads a book, and tells what it says or which byte of it is wrong.
+#![tactic(auto)]
+
 use bookwords::told;
 use console::{Failure, Input, read_all, tell};
 use libc::{STDERR_FILENO, STDIN_FILENO, STDOUT_FILENO};

@@ -1,4 +1,6 @@
 // A short text, built by value.
+#![tactic(auto)]
+
 ghost use Rattle.std.specs.Prelude.{◌≡◌, [], ◌<◌};
 ghost use Rattle.text.specs.Text.{text, pushed, appended};
 ghost use Rattle.text.specs.Numerals.{digit, place_of, decimal_of, hex_digit, hex_of, parameters_of};
@@ -10,7 +12,7 @@ pub mod output; // output.rt: a text put into a buffer
 pub const ROOM: usize = 64;
 
 // A short text, from its start; zeros past it.
-#[derive(Drop)]
+#[derive(Clone, Copy)]
 pub struct Text {
     pub bytes: [u8; ROOM],
     pub length: u8,

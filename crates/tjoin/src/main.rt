@@ -1,4 +1,6 @@
 // tjoin: joins an originator's book and an answerer's over a delay, and tells how both ends conclude.
+#![tactic(auto)]
+
 use console::{Failure, Input, read_all, tell};
 use libc::{STDERR_FILENO, STDIN_FILENO, STDOUT_FILENO};
 use pair::report::report;

@@ -1,4 +1,6 @@
 // tslot: drives one end with given bytes, slot by slot, and tells what it does in each.
+#![tactic(auto)]
+
 ghost use Rattle.std.specs.Prelude.{◌≡◌, length};
 
 use console::{Failure, Input, read_all, tell};

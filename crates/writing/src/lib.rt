@@ -1,4 +1,6 @@
 // What an open end takes and sends.
+#![tactic(auto)]
+
 ghost use Rattle.std.specs.Prelude.{◌≡◌, cond, ◌-◌, ◌*◌, eqb};
 ghost use Rattle.channel.specs.Bytes.{byte, dh_byte};
 ghost use Rattle.channel.specs.Forms.{units_of};
@@ -13,7 +15,7 @@ use opened::shape::{OPENING_SD, is_word, opening_bytes, pair_form};
 use protocol::{Claim, Drive, Half, Offer, Outbound, Shape, Signals};
 
 // What becomes of the sending half, the byte sent, and whether the offered unit is taken.
-#[derive(Drop)]
+#[derive(Clone, Copy)]
 pub struct WritingMade {
     pub outbound: Outbound,
     pub sent: ChannelByte,

@@ -1,0 +1,12 @@
+use Prim.Native.Nat.{◌-◌}
+use borrow.Author.Rules.{rules}
+use lib.ListN.{length}
+use Rattle.packing.proofs.Shift.{one_shl}
+use Rattle.packing.proofs.Scan.{Scan, start, step, found, finish}
+use Rattle.packing.proofs.out_of_range.Given as goal
+
+abbrev pub invariant-loop-i : goal.invariant-loop-i
+invariant-loop-i l = Scan l.k l.units l.limit l.i
+
+abbrev pub decreases-loop-i : goal.decreases-loop-i
+decreases-loop-i l = length l.units - l.i
