@@ -93,8 +93,9 @@ module _ (b : Book) (v i0 p0 p1 p2 p3 p4 : ℕ) where
       ≡ record { to = Over (opens_on found) (settled (hearing Nothing (i0 ∷ theirs)) v Done); out = Says (parameter_sent (as_a b) replies i) }
   unfolding slots
   replies_last i k l =
+      let t : Turn = record { exchange = settled (hearing Nothing (i0 ∷ theirs)) v Done; fate = opens_on found; sent = parameter_sent (as_a b) replies i } in
       rw (le-ltb (i + 1) (all_parameter_bytes (as_a b)) (omega arith), le-leb (all_parameter_bytes (as_a b)) (i + 1) (omega arith))
-      (opened_by _ found)
+      (opened_by t found)
 
   replies_said : (i : ℕ) (k : Kind) → (core (as_a b) (replying i) k).out ≡ Says (parameter_sent (as_a b) replies i)
   unfolding slots
