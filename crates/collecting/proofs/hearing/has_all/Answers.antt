@@ -1,0 +1,6 @@
+-- `collecting::hearing::has_all` meets its contract. Assumes nothing.
+use borrow.Author.Rules.{rules}
+use Rattle.collecting.proofs.hearing.has_all.Goals as goal
+
+pub returns : goal.returns
+returns c = simp c.item_of.ensures

@@ -1,0 +1,6 @@
+-- `collecting::hearing::held` meets its contract. Assumes nothing.
+use borrow.Author.Rules.{rules}
+use Rattle.collecting.proofs.hearing.held.Goals as goal
+
+pub returns-then-due : goal.returns-then-due
+returns-then-due c = simp c.if-due.true

@@ -1,0 +1,6 @@
+-- `idle` is the idle drive. Assumes nothing.
+use borrow.Author.Rules.{rules}
+use Rattle.opened.proofs.drive.idle.Goals as goal
+
+pub returns : goal.returns
+returns c = simp (c.drive_with.ensures, c.idle_leads.ensures)

@@ -1,0 +1,8 @@
+-- `fresh_line` is `fresh_line`. Assumes nothing.
+use Rattle.protocol.specs.Opened.{fresh_line}
+use borrow.Author.Rules.{rules}
+use Rattle.opened.proofs.line.fresh_line.Goals as goal
+
+pub returns : goal.returns
+unfolding fresh_line
+returns c = simp (c.inbound_of-inbound.ensures, c.outbound_of-outbound.ensures, c.idle_signals-idle.ensures)
