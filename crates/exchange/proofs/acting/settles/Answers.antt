@@ -1,0 +1,6 @@
+-- `exchange::acting::settles` meets its contract. Assumes nothing.
+use borrow.Author.Rules.{rules}
+use Rattle.exchange.proofs.acting.settles.Goals as goal
+
+pub returns : goal.returns
+returns c = simp (c.has_identifier-2.ensures, c.has_identifier.ensures)

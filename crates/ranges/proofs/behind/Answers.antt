@@ -1,0 +1,6 @@
+-- `behind` is protocol's `behind`. Assumes nothing.
+use borrow.Author.Rules.{rules}
+use Rattle.ranges.proofs.behind.Goals as goal
+
+pub returns-in-Group : goal.returns-in-Group
+returns-in-Group c = simp c.in-Group.is

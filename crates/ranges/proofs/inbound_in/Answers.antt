@@ -1,0 +1,8 @@
+-- `inbound_in` is `inbound_in`. Assumes nothing.
+use borrow.Author.Rules.{rules}
+use Rattle.protocol.specs.Ranges.{inbound_in}
+use Rattle.ranges.proofs.inbound_in.Goals as goal
+
+pub returns : goal.returns
+unfolding inbound_in
+returns c = simp (c.has_pair.ensures, c.half_in.ensures)

@@ -1,0 +1,8 @@
+-- `is_version` is `is_version`. Assumes nothing.
+use borrow.Author.Rules.{rules}
+use Rattle.protocol.specs.Ranges.{is_version}
+use Rattle.ranges.proofs.is_version.Goals as goal
+
+pub returns : goal.returns
+unfolding is_version
+returns c = simp (c.has_version.ensures, c.identifier.ensures)

@@ -1,0 +1,8 @@
+-- `nibbles_in` is `nibbles_in`. Assumes nothing.
+use borrow.Author.Rules.{rules}
+use Rattle.protocol.specs.Ranges.{nibbles_in}
+use Rattle.ranges.proofs.nibbles_in.Goals as goal
+
+pub returns : goal.returns
+unfolding nibbles_in
+returns c = simp (c.all_below-2.ensures, c.in_hand.ensures, c.all_below.ensures)

@@ -1,0 +1,6 @@
+-- `parameters_left`: fewer have gone than the five parameters have. Assumes nothing.
+use borrow.Author.Rules.{rules}
+use Rattle.ranges.proofs.parameters_left.Goals as goal
+
+pub returns : goal.returns
+returns c = simp c.all_parameter_bytes.ensures

@@ -1,0 +1,8 @@
+-- `values_in` is `values_in`. Assumes nothing.
+use borrow.Author.Rules.{rules}
+use Rattle.protocol.specs.Ranges.{values_in}
+use Rattle.ranges.proofs.values_in.Goals as goal
+
+pub returns : goal.returns
+unfolding values_in
+returns c = simp (c.all_below.ensures, c.item_of.ensures)

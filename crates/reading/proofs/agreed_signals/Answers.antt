@@ -1,0 +1,7 @@
+-- `agreed_signals` is `agreed_signals`. Assumes nothing.
+use borrow.Author.Rules.{rules}
+use Rattle.reading.proofs.Agreeing.{signals_agree}
+use Rattle.reading.proofs.agreed_signals.Goals as goal
+
+pub returns : goal.returns
+returns c = search signals_agree

@@ -1,0 +1,12 @@
+-- `reads_idle` is `reads_idle`. Assumes nothing.
+use mathlib.Core.Path.{ap, ◌∙◌}
+use borrow.Author.Rules.{rules}
+use Rattle.reading.specs.Made.{reading_made}
+use Rattle.reading.proofs.OtherKinds.{rest_idle}
+use Rattle.reading.proofs.reads_idle.Goals as goal
+
+pub returns-in-Sd : goal.returns-in-Sd
+returns-in-Sd c = simp (c.reads_sd.ensures, c.in-Sd.is)
+
+pub returns-in_default : goal.returns-in_default
+returns-in_default c = c.quiet.ensures ∙ ap reading_made (rest_idle c.args.i c.args.k c.in_default.not-Sd)

@@ -1,0 +1,6 @@
+-- `reads_sd` is `reads_sd`. Assumes nothing.
+use borrow.Author.Rules.{rules}
+use Rattle.reading.proofs.reads_sd.Goals as goal
+
+pub returns : goal.returns
+returns c = simp (c.inbound_of-inbound.ensures, c.agreed_signals-agreed.ensures)

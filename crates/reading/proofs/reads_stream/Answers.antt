@@ -1,0 +1,10 @@
+-- `reads_stream` is `reads_stream`. Assumes nothing.
+use borrow.Author.Rules.{rules}
+use Rattle.reading.proofs.Streams.{streams}
+use Rattle.reading.proofs.reads_stream.Goals as goal
+
+pub returns-then-seeking : goal.returns-then-seeking
+returns-then-seeking c = search streams
+
+pub returns : goal.returns
+returns c = search streams

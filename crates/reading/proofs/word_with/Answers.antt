@@ -1,0 +1,6 @@
+-- `word_with` is `word_with`. Assumes nothing.
+use borrow.Author.Rules.{rules}
+use Rattle.reading.proofs.word_with.Goals as goal
+
+pub returns-in-Holds : goal.returns-in-Holds
+returns-in-Holds c = simp (c.word_of.ensures, c.in-Holds.is)

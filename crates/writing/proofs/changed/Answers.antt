@@ -1,0 +1,6 @@
+-- `changed` is `changed`. Assumes nothing.
+use borrow.Author.Rules.{rules}
+use Rattle.writing.proofs.changed.Goals as goal
+
+pub returns : goal.returns
+returns c = simp (c.same_leads-2.ensures, c.same_leads.ensures)

@@ -1,0 +1,9 @@
+-- `writes_offer` is `writes_offer` of what is offered. Assumes nothing.
+use borrow.Author.Rules.{rules}
+use Rattle.writing.proofs.writes_offer.Goals as goal
+
+pub returns-in-Word : goal.returns-in-Word
+returns-in-Word c = simp (c.writes_word.ensures, c.in-Word.is)
+
+pub returns-in-Unit : goal.returns-in-Unit
+returns-in-Unit c = simp (c.writes_unit.ensures, c.in-Unit.is)

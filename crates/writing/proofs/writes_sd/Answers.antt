@@ -1,0 +1,8 @@
+-- `writes_sd` is `writes_sd`. Assumes nothing.
+use Rattle.protocol.specs.Sent.{byte_sent}
+use borrow.Author.Rules.{rules}
+use Rattle.writing.proofs.writes_sd.Goals as goal
+
+pub returns : goal.returns
+unfolding byte_sent
+returns c = simp (c.outbound_of-outbound.ensures, c.sd-sent.ensures, c.bk_sent-bk.ensures)
