@@ -1,0 +1,7 @@
+-- `script::input_refused` meets its contract. Assumes nothing.
+use Rattle.text.proofs.Joined.{appended_text}
+use borrow.Author.Rules.{rules}
+use Rattle.script.proofs.input_refused.Goals as goal
+
+pub returns : goal.returns
+returns c = simp (c.word.ensures, c.empty.ensures, appended_text)
