@@ -6,6 +6,7 @@ ghost use Rattle.text.specs.Text.{text};
 ghost use Rattle.console.specs.Reading.{Within, came_of};
 ghost use Rattle.console.specs.Telling.{told_of};
 
+use std::io::{Read, Write};
 use text::{Text, empty, word};
 
 // How many bytes stand at the start of the buffer, or that a read failed.
@@ -16,12 +17,12 @@ pub enum Input {
 }
 
 // Reads until the buffer is full or the input ends. An input that ends at once has been read; one that is closed, or a directory, has not.
-pub fn read_all(fd: i32, buf: &mut [u8]) -> Input
+pub fn read_all<R: Read>(from: &mut R, buf: &mut [u8]) -> Input
     ensures { Within (length buf.new) result }
 {
     let mut done = 0;
     while done < buf.len() {
-        let got = read_some(fd, &mut buf[done..]);
+        let got = read_some(from, &mut buf[done..]);
         let Input::Read(n) = got else {
             return Input::Failed;
         };
@@ -34,10 +35,13 @@ pub fn read_all(fd: i32, buf: &mut [u8]) -> Input
 }
 
 // One read. Of an input that has ended no byte comes.
-fn read_some(fd: i32, buf: &mut [u8]) -> Input
+fn read_some<R: Read>(from: &mut R, buf: &mut [u8]) -> Input
     ensures { Within (length buf.new) result }
 {
-    let got = libc::read(fd, buf);
+    let got = match from.read(buf) {
+        Ok(n) => n as isize,
+        Err(_) => -1,
+    };
     came(got, buf)
 }
 
@@ -59,13 +63,14 @@ pub enum Failure {
 }
 
 // Writes the line that tells of the failure, and answers that line.
-pub fn tell(fd: i32, name: &[u8], failure: Failure) -> Text
+pub fn tell<W: Write>(to: &mut W, name: &[u8], failure: Failure) -> Text
     ensures { result ≡ text (told_of name.now failure) }
 {
     let line = told(name, failure);
     let bytes = line.bytes;
     let n = io::count(line.length as isize, &bytes);
-    io::write_all(fd, &bytes[..n]);
+    // where the line can't be told either, nothing more is to be done
+    let _ = to.write_all(&bytes[..n]);
     line
 }
 

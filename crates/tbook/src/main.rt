@@ -3,7 +3,8 @@
 
 use bookwords::told;
 use console::{Failure, Input, read_all, tell};
-use libc::{STDERR_FILENO, STDIN_FILENO, STDOUT_FILENO};
+use std::env::{Env, FillError};
+use std::io::Write;
 
 // One place more than the longest book: what stands past that changes nothing of what is told.
 const PLACES: usize = 67;
@@ -12,9 +13,9 @@ const PLACES: usize = 67;
 const ROOM: usize = 400;
 
 // Told to who calls it with an argument.
-fn explain() {
-    io::write_all(
-        STDERR_FILENO,
+fn explain(rt: &HostRuntime) {
+    // where it can't be told, nothing more is to be done
+    let _ = rt.stderr().write_all(
         b"tbook reads a book and tells which byte of it is wrong, or what the book says.\n\
 It reads the bytes themselves, 17 to 66; xxd -r -p makes them from hex.\n\
 Of a book that is refused it prints one line, with the first byte that is wrong:\n  \
@@ -28,24 +29,33 @@ examples/book.hex has such a book, and examples/book-form.hex one with a slip in
     );
 }
 
-fn answer(input: &[u8]) {
+fn answer(rt: &HostRuntime, input: &[u8]) {
     let mut output = [0u8; ROOM];
     let written = told(input, &mut output);
-    if !io::write_all(STDOUT_FILENO, &output[..written]) {
-        tell(STDERR_FILENO, b"tbook", Failure::NotWritten);
+    if rt.stdout().write_all(&output[..written]).is_err() {
+        tell(&mut rt.stderr(), b"tbook", Failure::NotWritten);
     }
 }
 
-fn main() {
-    if os::arg_count() > 1 {
-        return explain();
+// Whether an argument stands behind the program's name.
+fn has_argument(rt: &HostRuntime) -> bool {
+    let mut first = [0u8; 1];
+    match rt.arg(1, &mut first) {
+        Err(FillError::NotPresent) => false,
+        _ => true,
+    }
+}
+
+fn main(rt: HostRuntime) {
+    if has_argument(&rt) {
+        return explain(&rt);
     }
     let mut input = [0u8; PLACES];
-    let read = read_all(STDIN_FILENO, &mut input);
+    let read = read_all(&mut rt.stdin(), &mut input);
     match read {
-        Input::Read(n) => answer(&input[..n]),
+        Input::Read(n) => answer(&rt, &input[..n]),
         Input::Failed => {
-            tell(STDERR_FILENO, b"tbook", Failure::NotRead);
+            tell(&mut rt.stderr(), b"tbook", Failure::NotRead);
         }
     }
 }

@@ -2,16 +2,17 @@
 #![tactic(auto)]
 
 use console::{Failure, Input, read_all, tell};
-use libc::{STDERR_FILENO, STDIN_FILENO, STDOUT_FILENO};
 use pair::report::report;
+use std::env::{Env, FillError};
+use std::io::Write;
 
 // One place more than the longest input, which tells a longer one from it.
 const PLACES: usize = 85;
 
 // Told to who calls it with an argument.
-fn explain() {
-    io::write_all(
-        STDERR_FILENO,
+fn explain(rt: &HostRuntime) {
+    // where it can't be told, nothing more is to be done
+    let _ = rt.stderr().write_all(
         b"tjoin joins two ends by a channel without damage and tells how both conclude.\n\
 It reads 18 to 84 bytes: the originator's book (17 bytes), the answerer's book\n\
 (17 to 66) and the delay in slots (1 byte, not 0). It prints two lines, O and A:\n  \
@@ -25,25 +26,34 @@ docs/NUMBERS.md says what each number means; examples/pair.hex has such an input
     );
 }
 
-fn answer(input: &[u8]) {
+fn answer(rt: &HostRuntime, input: &[u8]) {
     let said = report(input);
     let length = said.length as usize;
     let bytes = said.bytes;
-    if !io::write_all(STDOUT_FILENO, &bytes[..length]) {
-        tell(STDERR_FILENO, b"tjoin", Failure::NotWritten);
+    if rt.stdout().write_all(&bytes[..length]).is_err() {
+        tell(&mut rt.stderr(), b"tjoin", Failure::NotWritten);
     }
 }
 
-fn main() {
-    if os::arg_count() > 1 {
-        return explain();
+// Whether an argument stands behind the program's name.
+fn has_argument(rt: &HostRuntime) -> bool {
+    let mut first = [0u8; 1];
+    match rt.arg(1, &mut first) {
+        Err(FillError::NotPresent) => false,
+        _ => true,
+    }
+}
+
+fn main(rt: HostRuntime) {
+    if has_argument(&rt) {
+        return explain(&rt);
     }
     let mut input = [0u8; PLACES];
-    let read = read_all(STDIN_FILENO, &mut input);
+    let read = read_all(&mut rt.stdin(), &mut input);
     match read {
-        Input::Read(n) => answer(&input[..n]),
+        Input::Read(n) => answer(&rt, &input[..n]),
         Input::Failed => {
-            tell(STDERR_FILENO, b"tjoin", Failure::NotRead);
+            tell(&mut rt.stderr(), b"tjoin", Failure::NotRead);
         }
     }
 }

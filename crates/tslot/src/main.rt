@@ -4,12 +4,13 @@
 ghost use Rattle.std.specs.Prelude.{◌≡◌, length};
 
 use console::{Failure, Input, read_all, tell};
-use libc::{STDERR_FILENO, STDIN_FILENO, STDOUT_FILENO};
+use std::env::{Env, FillError};
+use std::io::Write;
 
 // Told to who calls it with an argument.
-fn explain() {
-    io::write_all(
-        STDERR_FILENO,
+fn explain(rt: &HostRuntime) {
+    // where it can't be told, nothing more is to be done
+    let _ = rt.stderr().write_all(
         b"tslot drives one end with given bytes and tells what it does in each slot.\n\
 It reads up to 65,535 bytes: the book's length (2 bytes), the book, then for each slot\n\
 3 bytes: the byte received; s0 to s3 in bits 0 to 3, the break flag in bit 4, bit 5 on\n\
@@ -30,25 +31,34 @@ fn output_buffer() -> [u8; 1114112]
     [0; 1114112]
 }
 
-fn answer(input: &[u8]) {
+fn answer(rt: &HostRuntime, input: &[u8]) {
     let mut output = output_buffer();
     let written = script::run(input, &mut output);
-    if !io::write_all(STDOUT_FILENO, &output[..written]) {
-        tell(STDERR_FILENO, b"tslot", Failure::NotWritten);
+    if rt.stdout().write_all(&output[..written]).is_err() {
+        tell(&mut rt.stderr(), b"tslot", Failure::NotWritten);
     }
 }
 
-fn main() {
-    if os::arg_count() > 1 {
-        return explain();
+// Whether an argument stands behind the program's name.
+fn has_argument(rt: &HostRuntime) -> bool {
+    let mut first = [0u8; 1];
+    match rt.arg(1, &mut first) {
+        Err(FillError::NotPresent) => false,
+        _ => true,
+    }
+}
+
+fn main(rt: HostRuntime) {
+    if has_argument(&rt) {
+        return explain(&rt);
     }
     // one byte longer than the largest script, so that a larger one is told
     let mut input = io::large_buffer();
-    let read = read_all(STDIN_FILENO, &mut input);
+    let read = read_all(&mut rt.stdin(), &mut input);
     match read {
-        Input::Read(n) => answer(&input[..n]),
+        Input::Read(n) => answer(&rt, &input[..n]),
         Input::Failed => {
-            tell(STDERR_FILENO, b"tslot", Failure::NotRead);
+            tell(&mut rt.stderr(), b"tslot", Failure::NotRead);
         }
     }
 }
