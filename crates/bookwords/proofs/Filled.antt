@@ -2,7 +2,7 @@
 use mathlib.Core.Path.{◌≡◌, sym, ap, ◌∙◌, subst}
 use mathlib.Core.Bool.{true}
 use mathlib.Core.List.{List, [], ◌∷◌, ◌++◌, append-nil}
-use Prim.Native.Nat.{ℕ, suc, ◌+◌, ◌^◌, ◌≤◌, ◌<◌, min}
+use Prim.Native.Nat.{ℕ, ◌+◌, ◌^◌, ◌≤◌, ◌<◌, min}
 use native.Mathlib.Numerals.{add-one}
 use native.Mathlib.Omega.{arith}
 use lib.Dec.{eqb}
@@ -15,7 +15,6 @@ use Rattle.book.specs.declared.Fault.{Fault}
 use Rattle.book.specs.declared.BookRead.{BookRead}
 use Rattle.book.specs.declared.Verdict.TheVariants.{Accepted, Refused}
 use Rattle.book.specs.Book.{originating, most_entries, no_entry}
-use Rattle.book.specs.Refusals.{book_offset}
 use Rattle.book.specs.Reading.{number_of, offset_of, read_book}
 use Rattle.book.specs.Kept.{book_ok}
 use Rattle.book.proofs.Offending.{offset_short}
@@ -23,7 +22,6 @@ use Rattle.book.proofs.Reply.{read_offset}
 use Rattle.book.proofs.RoundTrip.{number_passes}
 use Rattle.text.specs.declared.Text.{Text}
 use Rattle.text.specs.Ascii.{ascii}
-use Rattle.text.specs.Numerals.{decimal_of}
 use Rattle.text.specs.Output.{over, put_count}
 use Rattle.text.specs.Text.{room, text, appended}
 use Rattle.text.proofs.Filling.{SoFar, begin, go_on, finish_buffer, finish_count}

@@ -18,7 +18,7 @@ use Rattle.book.proofs.Kept.{kept}
 use Rattle.book.proofs.Longest.{first_matter}
 use Rattle.text.specs.Output.{over}
 use Rattle.text.proofs.Filling.{written_whole}
-use Rattle.bookwords.specs.Words.{refused_line, header_lines, entry_lines, accepted_lines, says_of, book_says}
+use Rattle.bookwords.specs.Words.{refused_line, entry_lines, accepted_lines, says_of, book_says}
 use Rattle.bookwords.proofs.Filled.{at_most, named_most, header_most, entry_most, kept_book}
 
 lines_most : (i : ℕ) (es : List Entry) → length (entry_lines i es) ≤ 43 * length es

@@ -1,8 +1,7 @@
 -- Figures of the channel's bytes, kinds, forms, versions and vote: beside each what this paper says. All of it is computed. Assumes nothing.
 use mathlib.Core.Path.{◌≡◌, refl}
 use mathlib.Core.Bool.{true, false}
-use mathlib.Core.List.{List, [], ◌∷◌, map}
-use Prim.Native.Nat.{ℕ}
+use mathlib.Core.List.{[], ◌∷◌, map}
 use native.Mathlib.Omega.{arith}
 use Rattle.ground.specs.Digits.{val}
 use Rattle.channel.specs.Bytes.{laid, sgvi, sgp, sgr, sgss, sgidle, sgdis, sdidle, signalling, sd_byte, dl_byte, dh_byte}

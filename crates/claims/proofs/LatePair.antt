@@ -2,7 +2,7 @@
 use mathlib.Core.Path.{◌≡◌, refl}
 use mathlib.Core.Bool.{Bool, true, false}
 use mathlib.Core.Logic.{◌⊎◌, inl, inr}
-use Prim.Native.Nat.{ℕ, ◌+◌, ◌≤◌}
+use Prim.Native.Nat.{ℕ}
 use native.Mathlib.Omega.{arith}
 use lib.Dec.{eqb}
 use borrow.Author.Tests.{eqb-true, eqb-false}
@@ -10,7 +10,7 @@ use Rattle.book.specs.declared.Book.{Book}
 use Rattle.protocol.specs.Lengths.{parameter_lead}
 use Rattle.protocol.specs.Sent.{byte_sent}
 use Rattle.protocol.specs.Pair.{ProfileIn, shared_version}
-use Rattle.protocol.specs.Late.{Later, OriginatorLater, AnswererLater, JoinedLate, meets_late}
+use Rattle.protocol.specs.Late.{Later, OriginatorLater, AnswererLater, JoinedLate}
 use Rattle.protocol.specs.declared.Drive.{Drive}
 use Rattle.protocol.proofs.Chain.Starting.{meets_by}
 use Rattle.protocol.proofs.Chain.PairConcludes.{profile_decided, no_version_late, both_open_late, no_profile_late}

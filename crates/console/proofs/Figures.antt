@@ -1,6 +1,6 @@
 -- Readings and what is told, at figures on both sides of each line. Assumes nothing.
 use mathlib.Core.Path.{◌≡◌, refl}
-use mathlib.Core.List.{List, [], ◌∷◌}
+use mathlib.Core.List.{[], ◌∷◌}
 use lib.IntN.{pos, negsuc}
 use Rattle.text.specs.Ascii.{ascii}
 use Rattle.console.specs.declared.Input.{Input}

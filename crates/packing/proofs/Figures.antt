@@ -1,5 +1,5 @@
 -- Figures of packing and unpacking and of their refusals: beside each what this paper says. All of it is computed. Assumes nothing.
-use mathlib.Core.Path.{◌≡◌, refl, ◌∙◌}
+use mathlib.Core.Path.{◌≡◌, refl}
 use mathlib.Core.List.{List, [], ◌∷◌, map}
 use Prim.Native.Nat.{ℕ}
 use Rattle.ground.specs.Digits.{val, digits, all_below}

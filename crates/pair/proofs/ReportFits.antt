@@ -1,12 +1,10 @@
 -- No report is longer than a text has room for, so none is cut. Assumes nothing.
-use mathlib.Core.Path.{◌≡◌}
 use mathlib.Core.Bool.{cond, ◌||◌}
 use mathlib.Core.List.{List}
 use Prim.Native.Nat.{ℕ, ◌≤◌}
 use native.Mathlib.Omega.{arith}
 use lib.Dec.{ltb}
 use lib.ListN.{length, length-append}
-use Rattle.ground.proofs.Test.{either_way}
 use Rattle.text.specs.Text.{room}
 use Rattle.text.proofs.Lengths.{decimal_most, parameters_length}
 use Rattle.protocol.specs.declared.Outcome.{Outcome}

@@ -2,11 +2,11 @@
 use mathlib.Core.Path.{◌≡◌, refl, sym, ap, ap₂, ◌∙◌}
 use mathlib.Core.Bool.{Bool, true, false, cond}
 use mathlib.Core.List.{List, [], ◌∷◌, ◌++◌, append-nil, append_assoc}
-use Prim.Native.Nat.{ℕ, zero, suc, ◌+◌, ◌≤◌, ◌<◌}
+use Prim.Native.Nat.{ℕ, suc, ◌+◌, ◌≤◌, ◌<◌}
 use native.Mathlib.Numerals.{add-one}
 use native.Mathlib.Omega.{arith}
 use lib.Dec.{ltb}
-use lib.ListN.{length, get_or, take, drop, set, replicate, length-set, length-replicate}
+use lib.ListN.{length, get_or, take, drop, set, length-set, length-replicate}
 use lib.Seq.{length-take-le, drop-cons, drop-length, get_or-take, take-suc-set, take-set-lt, drop-set-lt}
 use borrow.Author.Tests.{ltb-true, ltb-false}
 use Rattle.ground.proofs.Lists.{take-replicate}

@@ -2,7 +2,7 @@
 -- arrives is what the channel makes of what the other sent d slots before: so such a pair exists, for every channel whose damage is
 -- allowed. Assumes nothing.
 use mathlib.Core.Path.{◌≡◌, refl, sym, ap, ◌∙◌, subst}
-use mathlib.Core.List.{List, [], ◌∷◌, ◌++◌}
+use mathlib.Core.List.{[], ◌∷◌, ◌++◌}
 use Prim.Native.Nat.{ℕ, zero, suc, ◌+◌, ◌-◌, ◌≤◌, ◌<◌}
 use native.Mathlib.Nat.{add-zero, add-suc, le_refl}
 use native.Mathlib.Decide.{dec_lt}
@@ -10,8 +10,7 @@ use native.Mathlib.Omega.{arith}
 use lib.ListN.{drop}
 use borrow.Author.Tests.{lt-ltb, le-ltb}
 use Rattle.book.specs.declared.Book.{Book}
-use Rattle.channel.specs.Bytes.{sgidle}
-use Rattle.protocol.specs.Sent.{Sent, Alone}
+use Rattle.protocol.specs.Sent.{Sent}
 use Rattle.protocol.specs.Schedule.{enough}
 use Rattle.protocol.specs.Slot.{started, slot_step, slot_of}
 use Rattle.protocol.specs.Call.{end_at, sent_at, OffersFit}
@@ -21,7 +20,6 @@ use Rattle.protocol.specs.Joined.{Joined, joined}
 use Rattle.protocol.specs.Late.{Later, starts_o, starts_a, since, sent_from}
 use Rattle.protocol.specs.declared.Endpoint.{Endpoint}
 use Rattle.protocol.specs.declared.Drive.{Drive}
-use Rattle.protocol.proofs.Chain.OwnSlots.{not_yet, once_started}
 use Rattle.premises.specs.LateRun.{end_after, sent_in, late_slot, late_at, arrives_o, arrives_a, RunsLate}
 use Rattle.premises.proofs.DelayLine.{arrives_late}
 use Rattle.premises.proofs.WithinDamage.{Within, line_arrives}

@@ -1,3 +1,2 @@
 // No code: that the premises of the joined pair are met.
 #![tactic(auto)]
-

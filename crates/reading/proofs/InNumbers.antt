@@ -5,13 +5,13 @@ use mathlib.Core.List.{List, [], ◌∷◌}
 use Prim.Native.Nat.{ℕ}
 use lib.Dec.{eqb}
 use Rattle.channel.specs.Kinds.{kind_of}
-use Rattle.channel.specs.Forms.{unit_in, is_data, word_of}
+use Rattle.channel.specs.Forms.{unit_in, is_data}
 use Rattle.channel.specs.declared.kind.Kind.{Kind}
 use Rattle.channel.specs.declared.kind.Kind.TheVariants.{Sgvi, Sgp, Sgr, Dl, Dh, Sd, Other}
 use Rattle.channel.specs.declared.unit.Form.{Form}
 use Rattle.channel.specs.declared.unit.Form.TheVariants.{Six, SevenV1, SevenV2, Eight}
 use Rattle.protocol.specs.Answers.{says_delivered, word_in, delivers_of}
-use Rattle.protocol.specs.Opened.{Reading, pair_form, reads, quiet, word_with, reads_word, reads_idle, reads_six, reads_pair, reads_stream, reads_form, reading}
+use Rattle.protocol.specs.Opened.{Reading, reads, quiet, word_with, reads_word, reads_idle, reads_six, reads_pair, reads_stream, reads_form, reading}
 use Rattle.protocol.specs.declared.Half.{Half}
 use Rattle.protocol.specs.declared.Half.TheVariants.{Empty, Holds}
 use Rattle.protocol.specs.declared.Inbound.{Inbound}

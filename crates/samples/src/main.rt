@@ -291,7 +291,11 @@ fn closed_output(out: &Stdout) -> bool {
         let mut to = *out;
         tell(&mut to, b"samples", Failure::NotWritten);
     }
-    ended(out, b"wanted:\n", b"samples: the output could not be written\n")
+    ended(
+        out,
+        b"wanted:\n",
+        b"samples: the output could not be written\n",
+    )
 }
 
 // Whether an argument stands behind the program's name.

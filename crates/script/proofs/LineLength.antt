@@ -1,12 +1,9 @@
 -- No line is longer than a text has room for. Assumes nothing.
 use mathlib.Core.Path.{◌≡◌, refl}
 use mathlib.Core.Bool.{Bool, true, false}
-use Prim.Native.Nat.{ℕ, ◌+◌, ◌≤◌, ◌<◌}
+use Prim.Native.Nat.{ℕ, ◌+◌, ◌≤◌}
 use native.Mathlib.Omega.{arith}
-use lib.Dec.{ltb}
 use lib.ListN.{length, length-append}
-use borrow.Author.Tests.{lt-ltb}
-use Rattle.book.specs.declared.Entry.{Entry}
 use Rattle.channel.specs.declared.byte.ChannelByte.{ChannelByte}
 use Rattle.protocol.specs.declared.Signals.{Signals}
 use Rattle.protocol.specs.declared.Delivered.{Delivered}
@@ -16,7 +13,7 @@ use Rattle.protocol.specs.declared.Outcome.TheVariants as outcome
 use Rattle.protocol.specs.declared.Reply.{Reply}
 use Rattle.protocol.specs.declared.Reply.TheVariants as reply
 use Rattle.text.specs.Text.{room}
-use Rattle.text.specs.Numerals.{place_of, decimal_of, hex_of}
+use Rattle.text.specs.Numerals.{decimal_of, hex_of}
 use Rattle.text.proofs.Lengths.{decimal_most, parameters_length}
 use Rattle.script.specs.Line.{sent_field, unit_field, delivered_field, taken_field, flag_digit, signal_digits, signals_field, stands_field, detail_field, refusal_note, reply_fields, outcome_fields, line_of}
 

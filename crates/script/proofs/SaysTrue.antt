@@ -1,6 +1,6 @@
 -- What a script says is what the call of demand 2 does. Assumes nothing.
-use mathlib.Core.Path.{◌≡◌, refl, sym, ap, ◌∙◌, subst}
-use mathlib.Core.Bool.{Bool, true, false, cond, ◌||◌, true≢false}
+use mathlib.Core.Path.{◌≡◌, refl, sym, ap, ◌∙◌}
+use mathlib.Core.Bool.{Bool, true, false, true≢false}
 use mathlib.Core.List.{List, [], ◌∷◌, ◌++◌, append_assoc, append-nil}
 use Prim.Native.Nat.{ℕ, zero, suc, ◌+◌, ◌*◌, ◌/◌, ◌≤◌}
 use native.Mathlib.Numerals.{add-one}
@@ -8,12 +8,10 @@ use native.Mathlib.Omega.{arith}
 use lib.Dec.{ltb}
 use lib.ListN.{length, drop, drop_of_length-le}
 use Rattle.book.specs.declared.Book.{Book}
-use Rattle.book.specs.declared.BookRead.{BookRead}
 use Rattle.book.specs.Kept.{book_ok}
-use Rattle.book.specs.Reading.{accepts, read_book}
 use Rattle.book.proofs.RoundTrip.{read_passes}
 use Rattle.protocol.specs.Ranges.{well_formed}
-use Rattle.protocol.specs.Slot.{started, start_of, step_of, offer_allowed, outcome_of, slot_of}
+use Rattle.protocol.specs.Slot.{started, start_of, offer_allowed, slot_of}
 use Rattle.protocol.specs.Call.{end_at, stands_at}
 use Rattle.protocol.specs.declared.Endpoint.{Endpoint}
 use Rattle.protocol.specs.declared.Drive.{Drive}
@@ -22,7 +20,7 @@ use Rattle.protocol.proofs.Calls.SlotPasses.{reply_passes, slot_refused}
 use Rattle.protocol.proofs.Kept.StateKept.{call_kept}
 use Rattle.script.specs.Input.{most_bytes, is_stray, book_in, slots_at, slots_in, slots_fault, script_fault}
 use Rattle.script.specs.Line.{line_of}
-use Rattle.script.specs.Output.{line_by, lines_from, says_started, script_says}
+use Rattle.script.specs.Output.{line_by, lines_from, script_says}
 use Rattle.script.specs.SaysTrue.{heard_in, given_in, replies_in, lines_of, SaysTrue}
 use Rattle.script.proofs.Slots.{three, or_right}
 

@@ -1,6 +1,5 @@
 -- The line of a slot: seven fields parted by one space. Assumes nothing.
 use Rattle.std.specs.Prelude.{Bool, cond, List, [], ◌++◌, ℕ}
-use Rattle.book.specs.declared.Entry.{Entry}
 use Rattle.protocol.specs.declared.Signals.{Signals}
 use Rattle.protocol.specs.declared.Delivered.{Delivered}
 use Rattle.protocol.specs.declared.Delivered.TheVariants.{Nothing, Unit}

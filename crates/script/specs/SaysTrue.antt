@@ -1,6 +1,6 @@
 -- What a script says is what the call of demand 2 does: that call from the script's book, on the bytes and drives of its slots.
 -- Assumes nothing.
-use Rattle.std.specs.Prelude.{◌≡◌, Bool, true, false, cond, List, [], ◌++◌, ℕ, zero, suc, ◌+◌, ◌*◌, ◌/◌, length, get_or}
+use Rattle.std.specs.Prelude.{◌≡◌, false, cond, List, [], ◌++◌, ℕ, zero, suc, ◌+◌, ◌*◌, ◌/◌, length, get_or}
 use Rattle.book.specs.declared.Book.{Book}
 use Rattle.book.specs.Reading.{accepts, read_book}
 use Rattle.channel.specs.Bytes.{byte}

@@ -1,5 +1,4 @@
 -- `book_ok` is true of the books that reading yields. Assumes nothing.
-use borrow.Author.Rules.{rules}
 use Rattle.book.proofs.KeptCheck.{kept_ways, count_kept}
 use Rattle.book.proofs.book_ok.Goals as goal
 

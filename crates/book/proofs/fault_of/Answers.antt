@@ -1,5 +1,4 @@
 -- `fault_of` gives what each verdict says is wrong. Assumes nothing.
-use borrow.Author.Rules.{rules}
 use Rattle.book.proofs.fault_of.Goals as goal
 
 pub returns-in-Accepted : goal.returns-in-Accepted

@@ -1,11 +1,8 @@
 -- `accepted` puts the header and then the entries, one by one. Assumes nothing.
-use Prim.Native.Nat.{◌≤◌, ◌-◌}
-use mathlib.Core.Path.{◌≡◌, refl}
-use lib.ListN.{length}
+use mathlib.Core.Path.{refl}
 use borrow.Author.Rules.{rules}
-use Rattle.book.specs.Book.{most_entries}
 use Rattle.book.proofs.Kept.{kept}
-use Rattle.bookwords.proofs.Filled.{Telling, start, next, accepted}
+use Rattle.bookwords.proofs.Filled.{start, next, accepted}
 use Rattle.bookwords.proofs.accepted.Goals as goal
 
 pub loop-i-init : goal.loop-i-init
@@ -14,13 +11,13 @@ loop-i-init c = let book = kept _ c.requires in
 
 pub loop-i-preserved : goal.loop-i-preserved
 loop-i-preserved c = (
-      search rules,
-      search rules,
-      search rules,
-      search rules,
-      next _ _ c.loop-i.invariant.1 c.loop-i.invariant.2 c.loop-i.invariant.4 c.loop-i-test.true
-          c.entry_line.ensures c.put-at-in-loop-i.ensures.value c.put-at-in-loop-i.ensures.out_after,
-    )
+  search rules,
+  search rules,
+  search rules,
+  search rules,
+  next _ _ c.loop-i.invariant.1 c.loop-i.invariant.2 c.loop-i.invariant.4 c.loop-i-test.true
+      c.entry_line.ensures c.put-at-in-loop-i.ensures.value c.put-at-in-loop-i.ensures.out_after,
+)
 
 pub returns : goal.returns
 returns c =

@@ -1,10 +1,8 @@
 use Prim.Native.Nat.{◌≤◌, ◌-◌}
-use mathlib.Core.Path.{◌≡◌, refl}
+use mathlib.Core.Path.{◌≡◌}
 use lib.ListN.{length}
-use borrow.Author.Rules.{rules}
 use Rattle.book.specs.Book.{most_entries}
-use Rattle.book.proofs.Kept.{kept}
-use Rattle.bookwords.proofs.Filled.{Telling, start, next, accepted}
+use Rattle.bookwords.proofs.Filled.{Telling}
 use Rattle.bookwords.proofs.accepted.Given as goal
 
 abbrev pub invariant-loop-i : goal.invariant-loop-i

@@ -1,5 +1,4 @@
 -- `refused` puts the line of a refusal. Assumes nothing.
-use borrow.Author.Rules.{rules}
 use Rattle.bookwords.proofs.Filled.{named_line, refusal}
 use Rattle.bookwords.proofs.refused.Goals as goal
 

@@ -1,6 +1,5 @@
 -- `role_named` names the role. Assumes nothing.
 use borrow.Author.Tests.{ne_eqb}
-use borrow.Author.Rules.{rules}
 use Rattle.bookwords.proofs.role_named.Goals as goal
 
 pub returns-then-role-eq-ORIGINATING : goal.returns-then-role-eq-ORIGINATING

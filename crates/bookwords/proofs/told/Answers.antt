@@ -1,5 +1,4 @@
 -- `told` tells what the verdict calls for. Assumes nothing.
-use borrow.Author.Rules.{rules}
 use Rattle.text.proofs.Filling.{said_as}
 use Rattle.bookwords.proofs.Filled.{kept_book, says_accepted, offset_fits, says_refused}
 use Rattle.bookwords.proofs.told.Goals as goal

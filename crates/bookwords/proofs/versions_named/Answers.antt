@@ -1,6 +1,5 @@
 -- `versions_named` names the versions of a mask. Assumes nothing.
 use borrow.Author.Tests.{ne_eqb}
-use borrow.Author.Rules.{rules}
 use Rattle.bookwords.proofs.versions_named.Goals as goal
 
 pub returns-in-1 : goal.returns-in-1

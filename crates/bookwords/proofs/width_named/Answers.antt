@@ -2,7 +2,6 @@
 use borrow.Author.Tests.{ne_eqb}
 use Rattle.text.specs.Text.{appended}
 use Rattle.text.proofs.Joined.{appended_append}
-use borrow.Author.Rules.{rules}
 use Rattle.bookwords.proofs.width_named.Goals as goal
 
 pub returns-then-e-eq0 : goal.returns-then-e-eq0

@@ -7,7 +7,6 @@ use mir.Syntax.{w64}
 use mir.Val.{to_z, of_z}
 use lib.ListN.{length}
 use mir.ValLaws.{to_z-of_z}
-use borrow.Author.Rules.{rules}
 use Rattle.console.specs.declared.Input.{Input}
 use Rattle.console.specs.Reading.{came_of}
 use Rattle.console.proofs.Reading.{below_failed, else_came}

@@ -1,7 +1,6 @@
 -- `console::told` meets its contract. Assumes nothing.
 use Rattle.text.proofs.Joined.{appended_text}
 use Rattle.console.specs.Telling.{told_of}
-use borrow.Author.Rules.{rules}
 use Rattle.console.proofs.told.Goals as goal
 
 pub returns-in-NotRead : goal.returns-in-NotRead

@@ -1,9 +1,7 @@
 -- `packing::out_of_range` meets its contract: each turn of its loop keeps what `Scan` says. Assumes nothing.
-use Prim.Native.Nat.{◌-◌}
 use borrow.Author.Rules.{rules}
-use lib.ListN.{length}
 use Rattle.packing.proofs.Shift.{one_shl}
-use Rattle.packing.proofs.Scan.{Scan, start, step, found, finish}
+use Rattle.packing.proofs.Scan.{start, step, found, finish}
 use Rattle.packing.proofs.out_of_range.Goals as goal
 
 pub loop-i-init : goal.loop-i-init

@@ -1,8 +1,6 @@
 use Prim.Native.Nat.{◌-◌}
-use borrow.Author.Rules.{rules}
 use lib.ListN.{length}
-use Rattle.packing.proofs.Shift.{one_shl}
-use Rattle.packing.proofs.Scan.{Scan, start, step, found, finish}
+use Rattle.packing.proofs.Scan.{Scan}
 use Rattle.packing.proofs.out_of_range.Given as goal
 
 abbrev pub invariant-loop-i : goal.invariant-loop-i

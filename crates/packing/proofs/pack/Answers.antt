@@ -12,8 +12,11 @@ units_for-n-requires c = search (rules, form_low, form_high)
 
 -- an octet is below 256, as every byte of a slice is
 pub write-requires : goal.write-requires
-write-requires c = record { a_bound = search (rules, form_high); src_value = all_of 256 c.args.src.now
-      (λ i. (c.shared_slice_known-1.given i).fits) }
+write-requires c = record {
+  a_bound = search (rules, form_high);
+  src_value = all_of 256 c.args.src.now
+      (λ i. (c.shared_slice_known-1.given i).fits);
+}
 
 pub returns : goal.returns
 returns c = search pack_answer

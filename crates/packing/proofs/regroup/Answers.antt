@@ -1,9 +1,8 @@
 -- `packing::regroup` meets its contract: each turn of its loop keeps what `Turns` says. Assumes nothing.
-use Prim.Native.Nat.{◌+◌, ◌*◌, ◌-◌}
 use native.Mathlib.Omega.{arith}
 use borrow.Author.Rules.{rules}
-use lib.ListN.{length, length-set}
-use Rattle.packing.proofs.Turns.{Inv, start, emit, read, pad, finish, base_pos, byte, fits}
+use lib.ListN.{length-set}
+use Rattle.packing.proofs.Turns.{start, emit, read, pad, finish, base_pos, byte, fits}
 use Rattle.packing.proofs.Shift.{one_shl}
 use Rattle.packing.proofs.regroup.Goals as goal
 

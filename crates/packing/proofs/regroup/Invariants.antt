@@ -1,9 +1,6 @@
 use Prim.Native.Nat.{◌+◌, ◌*◌, ◌-◌}
-use native.Mathlib.Omega.{arith}
-use borrow.Author.Rules.{rules}
-use lib.ListN.{length, length-set}
-use Rattle.packing.proofs.Turns.{Inv, start, emit, read, pad, finish, base_pos, byte, fits}
-use Rattle.packing.proofs.Shift.{one_shl}
+use lib.ListN.{length}
+use Rattle.packing.proofs.Turns.{Inv}
 use Rattle.packing.proofs.regroup.Given as goal
 
 abbrev pub invariant-loop-j : goal.invariant-loop-j

@@ -1,7 +1,6 @@
 -- `packing::units_for` meets its contract. Assumes nothing.
 use native.Mathlib.Nat.{mod-lt}
 use native.Mathlib.Omega.{arith}
-use borrow.Author.Rules.{rules}
 use Rattle.packing.proofs.Counts.{units_split, sixth, units_fit}
 use Rattle.packing.proofs.units_for.Goals as goal
 

@@ -1,5 +1,4 @@
 -- `packing::write` meets its contract. Assumes nothing.
-use borrow.Author.Rules.{rules}
 use Rattle.packing.proofs.Answers.{place_beyond, too_few, wrote}
 use Rattle.packing.proofs.write.Goals as goal
 

@@ -1,13 +1,13 @@
 -- Two ends that start together are two of which one starts 0 slots after the other, and what is concluded of the one pair is concluded of the
 -- other. Assumes nothing.
-use mathlib.Core.Path.{◌≡◌, sym, ap, ap₂, ◌∙◌, subst, subst₂}
-use Prim.Native.Nat.{ℕ, ◌+◌}
+use mathlib.Core.Path.{◌≡◌, sym, ap₂, ◌∙◌, subst, subst₂}
+use Prim.Native.Nat.{ℕ}
 use native.Mathlib.Nat.{add-zero, sub-zero}
 use native.Mathlib.Omega.{arith}
 use Rattle.book.specs.declared.Entry.{Entry}
 use Rattle.book.specs.declared.Book.{Book}
 use Rattle.channel.specs.Bytes.{sgidle}
-use Rattle.protocol.specs.Sent.{Sent, Alone}
+use Rattle.protocol.specs.Sent.{Alone}
 use Rattle.protocol.specs.Exchange.{entry_of}
 use Rattle.protocol.specs.Schedule.{meets, lacks_o, lacks_a, concludes_o, concludes_a}
 use Rattle.protocol.specs.Slot.{started}

@@ -20,7 +20,7 @@ use Rattle.protocol.specs.declared.Sending.TheVariants.{Idle, Hail, Mask}
 use Rattle.protocol.proofs.Chain.Segments.{Says}
 use Rattle.protocol.proofs.Chain.Roles.{as_o, as_a, id_a}
 use Rattle.protocol.proofs.Kept.GroupMoves.{any_way}
-use Rattle.protocol.proofs.Chain.Core.{Core, Talks, core, heard_as, run_grows, run_breaks, hearing, talk, no_values}
+use Rattle.protocol.proofs.Chain.Core.{Core, Talks, core, heard_as, run_grows, run_breaks, talk, no_values}
 
 -- an originator that waits, of whose run c bytes have come; an answerer that hails
 abbrev pub wait_o : ℕ → Core

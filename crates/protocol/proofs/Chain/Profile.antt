@@ -10,7 +10,7 @@ use Rattle.ground.proofs.Test.{both_right}
 use Rattle.book.specs.declared.Entry.{Entry}
 use Rattle.book.specs.declared.Book.{Book}
 use Rattle.book.specs.Book.{params_of, same_params}
-use Rattle.protocol.specs.Exchange.{entry_of, left_out, matches, match_in}
+use Rattle.protocol.specs.Exchange.{entry_of, left_out, match_in}
 use Rattle.protocol.specs.Pair.{MayJoin}
 use Rattle.protocol.specs.declared.Match.{Match}
 use Rattle.protocol.specs.declared.Match.TheVariants as match

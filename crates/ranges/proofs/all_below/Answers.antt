@@ -1,8 +1,7 @@
 -- `all_below`: the numbers not yet looked at decide. Assumes nothing.
 use mathlib.Core.Path.{refl}
-use Prim.Native.Nat.{◌-◌}
 use borrow.Author.Rules.{rules}
-use Rattle.ranges.proofs.AllBelow.{Looked, next, found, finish}
+use Rattle.ranges.proofs.AllBelow.{next, found, finish}
 use Rattle.ranges.proofs.all_below.Goals as goal
 
 pub loop-i-init : goal.loop-i-init

@@ -1,7 +1,5 @@
-use mathlib.Core.Path.{refl}
 use Prim.Native.Nat.{◌-◌}
-use borrow.Author.Rules.{rules}
-use Rattle.ranges.proofs.AllBelow.{Looked, next, found, finish}
+use Rattle.ranges.proofs.AllBelow.{Looked}
 use Rattle.ranges.proofs.all_below.Given as goal
 
 abbrev pub invariant-loop-i : goal.invariant-loop-i

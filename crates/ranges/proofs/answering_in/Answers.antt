@@ -1,5 +1,4 @@
 -- `answering_in` is `answering_in`. Assumes nothing.
-use borrow.Author.Rules.{rules}
 use Rattle.protocol.specs.Ranges.{answering_in}
 use Rattle.protocol.specs.Lengths.{identifier_run}
 use Rattle.ranges.proofs.answering_in.Goals as goal

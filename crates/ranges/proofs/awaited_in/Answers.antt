@@ -1,5 +1,4 @@
 -- `awaited_in` is `awaited_in`. Assumes nothing.
-use borrow.Author.Rules.{rules}
 use Rattle.protocol.specs.Ranges.{awaited_in}
 use Rattle.ranges.proofs.awaited_in.Goals as goal
 

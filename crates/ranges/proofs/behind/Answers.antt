@@ -1,5 +1,4 @@
 -- `behind` is protocol's `behind`. Assumes nothing.
-use borrow.Author.Rules.{rules}
 use Rattle.ranges.proofs.behind.Goals as goal
 
 pub returns-in-Group : goal.returns-in-Group

@@ -1,5 +1,4 @@
 -- `claim_in` is `claim_in`. Assumes nothing.
-use borrow.Author.Rules.{rules}
 use Rattle.ranges.proofs.claim_in.Goals as goal
 
 pub returns-in-Second : goal.returns-in-Second

@@ -1,10 +1,9 @@
 -- `due_in` is `due_in`. Assumes nothing.
-use borrow.Author.Rules.{rules}
 use Rattle.ranges.proofs.due_in.Goals as goal
 
 pub returns-in-Holds : goal.returns-in-Holds
 returns-in-Holds c = simp (
-      c.high_fits.ensures,
-      c.in-Holds.is,
-      c.in-Word.is,
-    )
+  c.high_fits.ensures,
+  c.in-Holds.is,
+  c.in-Word.is,
+)

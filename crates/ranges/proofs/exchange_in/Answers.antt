@@ -1,5 +1,4 @@
 -- `exchange_in` is `exchange_in`. Assumes nothing.
-use borrow.Author.Rules.{rules}
 use Rattle.ranges.proofs.exchange_in.Goals as goal
 
 pub returns : goal.returns

@@ -1,5 +1,4 @@
 -- `half_in` is `half_in`. Assumes nothing.
-use borrow.Author.Rules.{rules}
 use Rattle.ranges.proofs.half_in.Goals as goal
 
 pub returns-in-Holds : goal.returns-in-Holds

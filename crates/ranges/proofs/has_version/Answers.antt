@@ -1,6 +1,5 @@
 -- `has_version`: 1 to 8, with its bit set in the mask. Assumes nothing.
 use borrow.Author.Tests.{le-leb, lt-leb}
-use borrow.Author.Rules.{rules}
 use Rattle.ranges.proofs.has_version.Goals as goal
 
 pub returns-then-version-lt1 : goal.returns-then-version-lt1

@@ -1,5 +1,4 @@
 -- `inbound_in` is `inbound_in`. Assumes nothing.
-use borrow.Author.Rules.{rules}
 use Rattle.protocol.specs.Ranges.{inbound_in}
 use Rattle.ranges.proofs.inbound_in.Goals as goal
 

@@ -1,5 +1,4 @@
 -- `is_version` is `is_version`. Assumes nothing.
-use borrow.Author.Rules.{rules}
 use Rattle.protocol.specs.Ranges.{is_version}
 use Rattle.ranges.proofs.is_version.Goals as goal
 

@@ -1,5 +1,4 @@
 -- `may_lack` is `may_lack`. Assumes nothing.
-use borrow.Author.Rules.{rules}
 use Rattle.ranges.proofs.may_lack.Goals as goal
 
 pub returns-in-Hail : goal.returns-in-Hail

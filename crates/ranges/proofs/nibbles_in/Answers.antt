@@ -1,5 +1,4 @@
 -- `nibbles_in` is `nibbles_in`. Assumes nothing.
-use borrow.Author.Rules.{rules}
 use Rattle.protocol.specs.Ranges.{nibbles_in}
 use Rattle.ranges.proofs.nibbles_in.Goals as goal
 

@@ -1,5 +1,4 @@
 -- `originating_in` is `originating_in`. Assumes nothing.
-use borrow.Author.Rules.{rules}
 use Rattle.protocol.specs.Ranges.{originating_in}
 use Rattle.protocol.specs.Lengths.{identifier_run}
 use Rattle.ranges.proofs.originating_in.Goals as goal

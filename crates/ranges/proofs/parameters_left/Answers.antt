@@ -1,5 +1,4 @@
 -- `parameters_left`: fewer have gone than the five parameters have. Assumes nothing.
-use borrow.Author.Rules.{rules}
 use Rattle.ranges.proofs.parameters_left.Goals as goal
 
 pub returns : goal.returns

@@ -1,16 +1,15 @@
 -- `phase_in` is `phase_in`. Assumes nothing.
-use borrow.Author.Rules.{rules}
 use Rattle.protocol.specs.Ranges.{phase_in}
 use Rattle.ranges.proofs.phase_in.Goals as goal
 
 pub returns-in-Exchanging : goal.returns-in-Exchanging
 unfolding phase_in
 returns-in-Exchanging c = simp (
-      c.values_in.ensures,
-      c.nibbles_in.ensures,
-      c.exchange_in.ensures,
-      c.in-Exchanging.is,
-    )
+  c.values_in.ensures,
+  c.nibbles_in.ensures,
+  c.exchange_in.ensures,
+  c.in-Exchanging.is,
+)
 
 pub returns-in-Open : goal.returns-in-Open
 unfolding phase_in

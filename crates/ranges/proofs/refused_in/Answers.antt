@@ -1,5 +1,4 @@
 -- `refused_in` is `refused_in`. Assumes nothing.
-use borrow.Author.Rules.{rules}
 use Rattle.protocol.specs.Ranges.{refused_in}
 use Rattle.ranges.proofs.refused_in.Goals as goal
 

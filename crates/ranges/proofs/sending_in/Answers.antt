@@ -1,6 +1,5 @@
 -- `sending_in` is `sending_in`. Assumes nothing.
 use mathlib.Core.Path.{sym, ◌∙◌}
-use borrow.Author.Rules.{rules}
 use Rattle.ranges.proofs.sending_in.Goals as goal
 
 pub returns-then-originates : goal.returns-then-originates

@@ -1,5 +1,4 @@
 -- `values_in` is `values_in`. Assumes nothing.
-use borrow.Author.Rules.{rules}
 use Rattle.protocol.specs.Ranges.{values_in}
 use Rattle.ranges.proofs.values_in.Goals as goal
 

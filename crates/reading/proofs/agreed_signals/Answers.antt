@@ -1,5 +1,4 @@
 -- `agreed_signals` is `agreed_signals`. Assumes nothing.
-use borrow.Author.Rules.{rules}
 use Rattle.reading.proofs.Agreeing.{signals_agree}
 use Rattle.reading.proofs.agreed_signals.Goals as goal
 

@@ -1,5 +1,4 @@
 -- `reading` is protocol's `reading`, and delivers the unit that document 01 says. Assumes nothing.
-use borrow.Author.Rules.{rules}
 use Rattle.protocol.specs.Opened.{reading}
 use Rattle.reading.proofs.InNumbers.{replies}
 use Rattle.reading.proofs.reading.Goals as goal

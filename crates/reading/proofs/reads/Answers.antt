@@ -1,5 +1,4 @@
 -- `reads` is `reads`. Assumes nothing.
-use borrow.Author.Rules.{rules}
 use Rattle.reading.proofs.reads.Goals as goal
 
 pub returns : goal.returns

@@ -1,6 +1,5 @@
 -- `reads_form` is `reads_form`. Assumes nothing.
 use mathlib.Core.Path.{ap, sym, ◌∙◌}
-use borrow.Author.Rules.{rules}
 use Rattle.reading.specs.Made.{reading_made}
 use Rattle.reading.proofs.PairForms.{as_stream, as_six}
 use Rattle.reading.proofs.reads_form.Goals as goal

@@ -1,6 +1,5 @@
 -- `reads_high` is `reads_word` at a DH. Assumes nothing.
 use mathlib.Core.Path.{sym, ◌∙◌}
-use borrow.Author.Rules.{rules}
 use Rattle.protocol.specs.Opened.{reads_word}
 use Rattle.reading.proofs.reads_high.Goals as goal
 

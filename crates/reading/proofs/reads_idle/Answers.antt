@@ -1,6 +1,5 @@
 -- `reads_idle` is `reads_idle`. Assumes nothing.
 use mathlib.Core.Path.{ap, ◌∙◌}
-use borrow.Author.Rules.{rules}
 use Rattle.reading.specs.Made.{reading_made}
 use Rattle.reading.proofs.OtherKinds.{rest_idle}
 use Rattle.reading.proofs.reads_idle.Goals as goal

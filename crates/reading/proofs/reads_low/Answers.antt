@@ -1,6 +1,5 @@
 -- `reads_low` is `reads_word` at a DL. Assumes nothing.
 use mathlib.Core.Path.{sym, ◌∙◌}
-use borrow.Author.Rules.{rules}
 use Rattle.reading.proofs.reads_low.Goals as goal
 
 pub returns-then-ignores : goal.returns-then-ignores

@@ -1,6 +1,5 @@
 -- `reads_pair` is `reads_pair`. Assumes nothing.
 use mathlib.Core.Path.{ap, ◌∙◌}
-use borrow.Author.Rules.{rules}
 use Rattle.reading.specs.Made.{reading_made}
 use Rattle.reading.proofs.OtherKinds.{rest_pair}
 use Rattle.reading.proofs.reads_pair.Goals as goal

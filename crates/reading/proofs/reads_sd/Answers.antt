@@ -1,5 +1,4 @@
 -- `reads_sd` is `reads_sd`. Assumes nothing.
-use borrow.Author.Rules.{rules}
 use Rattle.reading.proofs.reads_sd.Goals as goal
 
 pub returns : goal.returns

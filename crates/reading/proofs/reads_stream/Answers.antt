@@ -1,5 +1,4 @@
 -- `reads_stream` is `reads_stream`. Assumes nothing.
-use borrow.Author.Rules.{rules}
 use Rattle.reading.proofs.Streams.{streams}
 use Rattle.reading.proofs.reads_stream.Goals as goal
 

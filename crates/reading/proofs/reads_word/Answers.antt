@@ -1,6 +1,5 @@
 -- `reads_word` is `reads_word`. Assumes nothing.
 use mathlib.Core.Path.{ap, ◌∙◌}
-use borrow.Author.Rules.{rules}
 use Rattle.protocol.specs.Opened.{reads_word}
 use Rattle.reading.specs.Made.{reading_made}
 use Rattle.reading.proofs.OtherKinds.{rest_word}

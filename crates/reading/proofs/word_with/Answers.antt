@@ -1,5 +1,4 @@
 -- `word_with` is `word_with`. Assumes nothing.
-use borrow.Author.Rules.{rules}
 use Rattle.reading.proofs.word_with.Goals as goal
 
 pub returns-in-Holds : goal.returns-in-Holds

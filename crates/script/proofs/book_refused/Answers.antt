@@ -1,15 +1,14 @@
 -- `script::book_refused` meets its contract. Assumes nothing.
 use Rattle.text.proofs.Joined.{appended_text}
 use Rattle.script.specs.Output.{book_refused}
-use borrow.Author.Rules.{rules}
 use Rattle.script.proofs.book_refused.Goals as goal
 
 pub returns : goal.returns
 unfolding book_refused
 returns c = simp (
-      c.word.ensures,
-      c.decimal-numbered.ensures,
-      c.word-begun.ensures,
-      c.empty.ensures,
-      appended_text,
-    )
+  c.word.ensures,
+  c.decimal-numbered.ensures,
+  c.word-begun.ensures,
+  c.empty.ensures,
+  appended_text,
+)

@@ -1,6 +1,5 @@
 -- `script::input_refused` meets its contract. Assumes nothing.
 use Rattle.text.proofs.Joined.{appended_text}
-use borrow.Author.Rules.{rules}
 use Rattle.script.proofs.input_refused.Goals as goal
 
 pub returns : goal.returns

@@ -1,8 +1,6 @@
 -- `script::lines` meets its contract. Assumes nothing.
-use Prim.Native.Nat.{◌-◌}
 use native.Mathlib.Omega.{arith}
-use lib.ListN.{length}
-use Rattle.script.proofs.Telling.{Telling, start, whole, next, finish}
+use Rattle.script.proofs.Telling.{start, whole, next, finish}
 use borrow.Author.Rules.{rules}
 use Rattle.script.proofs.lines.Goals as goal
 

@@ -1,8 +1,6 @@
 use Prim.Native.Nat.{◌-◌}
-use native.Mathlib.Omega.{arith}
 use lib.ListN.{length}
-use Rattle.script.proofs.Telling.{Telling, start, whole, next, finish}
-use borrow.Author.Rules.{rules}
+use Rattle.script.proofs.Telling.{Telling}
 use Rattle.script.proofs.lines.Given as goal
 
 abbrev pub invariant-loop-i : goal.invariant-loop-i

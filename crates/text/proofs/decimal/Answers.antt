@@ -1,6 +1,5 @@
 -- `text::decimal` meets its contract. Assumes nothing.
 use Rattle.text.proofs.Writing.{all_places}
-use borrow.Author.Rules.{rules}
 use Rattle.text.proofs.decimal.Goals as goal
 
 pub returns : goal.returns

@@ -1,6 +1,5 @@
 -- `text::hex` meets its contract. Assumes nothing.
 use Rattle.text.proofs.Writing.{two_digits}
-use borrow.Author.Rules.{rules}
 use Rattle.text.proofs.hex.Goals as goal
 
 pub returns : goal.returns

@@ -1,6 +1,5 @@
 -- `text::place` meets its contract. Assumes nothing.
 use Rattle.text.proofs.Writing.{place_left_out, place_written}
-use borrow.Author.Rules.{rules}
 use Rattle.text.proofs.place.Goals as goal
 
 pub returns-then-n-unit : goal.returns-then-n-unit

@@ -1,7 +1,6 @@
 -- `text::push` meets its contract. Assumes nothing.
 use borrow.Author.Tests.{lt-ltb, le-ltb}
 use Rattle.text.specs.Text.{pushed}
-use borrow.Author.Rules.{rules}
 use Rattle.text.proofs.push.Goals as goal
 
 pub returns-then-n-lt-ROOM : goal.returns-then-n-lt-ROOM

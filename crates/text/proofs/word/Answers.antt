@@ -1,9 +1,6 @@
 -- `text::word` meets its contract. Assumes nothing.
-use mathlib.Core.Path.{◌≡◌, refl}
-use Prim.Native.Nat.{◌-◌, ◌≤◌}
+use mathlib.Core.Path.{refl}
 use borrow.Author.Rules.{rules}
-use lib.ListN.{length, drop}
-use Rattle.text.specs.Text.{appended}
 use Rattle.text.proofs.Writing.{word_next, word_end}
 use Rattle.text.proofs.word.Goals as goal
 

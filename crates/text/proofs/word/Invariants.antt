@@ -1,9 +1,7 @@
-use mathlib.Core.Path.{◌≡◌, refl}
+use mathlib.Core.Path.{◌≡◌}
 use Prim.Native.Nat.{◌-◌, ◌≤◌}
-use borrow.Author.Rules.{rules}
 use lib.ListN.{length, drop}
 use Rattle.text.specs.Text.{appended}
-use Rattle.text.proofs.Writing.{word_next, word_end}
 use Rattle.text.proofs.word.Given as goal
 
 abbrev pub invariant-loop-i : goal.invariant-loop-i

@@ -1,5 +1,4 @@
 -- `all_ones` is the highest unit of the form. Assumes nothing.
-use borrow.Author.Rules.{rules}
 use Rattle.writing.proofs.all_ones.Goals as goal
 
 pub returns-in-Six : goal.returns-in-Six

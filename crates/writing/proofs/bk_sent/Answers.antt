@@ -1,5 +1,4 @@
 -- `bk_sent` is `bk_sent`. Assumes nothing.
-use borrow.Author.Rules.{rules}
 use Rattle.writing.proofs.bk_sent.Goals as goal
 
 pub returns : goal.returns

@@ -1,5 +1,4 @@
 -- `changed` is `changed`. Assumes nothing.
-use borrow.Author.Rules.{rules}
 use Rattle.writing.proofs.changed.Goals as goal
 
 pub returns : goal.returns

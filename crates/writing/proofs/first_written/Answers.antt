@@ -2,7 +2,6 @@
 use mathlib.Core.Path.{◌≡◌, refl}
 use mathlib.Core.Bool.{Bool, true, false, cond}
 use lib.Dec.{ltb}
-use borrow.Author.Rules.{rules}
 use Rattle.protocol.specs.Opened.{has_pair, fresh_line, writing, writes_opening}
 use Rattle.writing.proofs.first_written.Goals as goal
 

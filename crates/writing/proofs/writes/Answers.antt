@@ -1,5 +1,4 @@
 -- `writes` is `sending_byte`. Assumes nothing.
-use borrow.Author.Rules.{rules}
 use Rattle.writing.proofs.writes.Goals as goal
 
 pub returns : goal.returns

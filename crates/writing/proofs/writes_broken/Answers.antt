@@ -1,6 +1,5 @@
 -- `writes_broken` is `writes_due` with no DH due. Assumes nothing.
 use mathlib.Core.Path.{sym, ◌∙◌}
-use borrow.Author.Rules.{rules}
 use Rattle.writing.proofs.writes_broken.Goals as goal
 
 pub returns-then-held : goal.returns-then-held

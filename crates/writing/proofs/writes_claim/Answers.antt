@@ -1,5 +1,4 @@
 -- `writes_claim` is `writes_claim`. Assumes nothing.
-use borrow.Author.Rules.{rules}
 use Rattle.writing.proofs.writes_claim.Goals as goal
 
 pub returns-in-Second : goal.returns-in-Second

@@ -1,6 +1,5 @@
 -- `writes_data` is `writes_data`. Assumes nothing.
 use Rattle.protocol.specs.Opened.{writes_data}
-use borrow.Author.Rules.{rules}
 use Rattle.writing.proofs.writes_data.Goals as goal
 
 pub returns-in-Word : goal.returns-in-Word

@@ -1,5 +1,4 @@
 -- `writes_due` is `writes_due`. Assumes nothing.
-use borrow.Author.Rules.{rules}
 use Rattle.protocol.specs.Sent.{byte_sent}
 use Rattle.writing.proofs.writes_due.Goals as goal
 

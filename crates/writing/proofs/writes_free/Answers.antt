@@ -1,6 +1,5 @@
 -- `writes_free` is `writes_claim` where nobody has a claim. Assumes nothing.
 use mathlib.Core.Path.{sym, ◌∙◌}
-use borrow.Author.Rules.{rules}
 use Rattle.writing.proofs.writes_free.Goals as goal
 
 pub returns-then-changed : goal.returns-then-changed

@@ -1,5 +1,4 @@
 -- `writes_offer` is `writes_offer` of what is offered. Assumes nothing.
-use borrow.Author.Rules.{rules}
 use Rattle.writing.proofs.writes_offer.Goals as goal
 
 pub returns-in-Word : goal.returns-in-Word

@@ -1,6 +1,5 @@
 -- `writes_sd` is `writes_sd`. Assumes nothing.
 use Rattle.protocol.specs.Sent.{byte_sent}
-use borrow.Author.Rules.{rules}
 use Rattle.writing.proofs.writes_sd.Goals as goal
 
 pub returns : goal.returns

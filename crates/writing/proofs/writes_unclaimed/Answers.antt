@@ -1,7 +1,6 @@
 -- `writes_unclaimed` is `writes_data` of a form of units. Assumes nothing.
 use mathlib.Core.Path.{sym, ◌∙◌}
 use Rattle.protocol.specs.Opened.{writes_data}
-use borrow.Author.Rules.{rules}
 use Rattle.writing.proofs.writes_unclaimed.Goals as goal
 
 pub returns-then-pair_form : goal.returns-then-pair_form

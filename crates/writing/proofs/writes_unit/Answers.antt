@@ -1,5 +1,4 @@
 -- `writes_unit` is `writes_unit`. Assumes nothing.
-use borrow.Author.Rules.{rules}
 use Rattle.protocol.specs.Sent.{byte_sent}
 use Rattle.writing.proofs.writes_unit.Goals as goal
 

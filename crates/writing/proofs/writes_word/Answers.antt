@@ -1,5 +1,4 @@
 -- `writes_word` is `writes_word`. Assumes nothing.
-use borrow.Author.Rules.{rules}
 use Rattle.protocol.specs.Sent.{byte_sent}
 use Rattle.writing.proofs.writes_word.Goals as goal
 

@@ -1,5 +1,4 @@
 -- `header` gives the values of the bytes. Assumes nothing.
-use borrow.Author.Rules.{rules}
 use Rattle.book.proofs.bytes.header.Goals as goal
 
 pub returns : goal.returns

@@ -1,5 +1,4 @@
 -- `length_fault` finds 1, 11 or nothing as the length says. Assumes nothing.
-use borrow.Author.Rules.{rules}
 use Rattle.book.proofs.Header.{lengths}
 use Rattle.book.proofs.bytes.length_fault.Goals as goal
 

@@ -1,6 +1,4 @@
 -- `load` keeps the entries one by one: before entry i the array is what keeps i entries. Assumes nothing.
-use Prim.Native.Nat.{◌≤◌, ◌-◌}
-use mathlib.Core.Path.{◌≡◌}
 use borrow.Author.Rules.{rules}
 use Rattle.book.specs.Book.{kept_entries, entries_of}
 use Rattle.book.proofs.Loading.{kept_next, kept_end}

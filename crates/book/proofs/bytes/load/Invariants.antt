@@ -1,8 +1,6 @@
 use Prim.Native.Nat.{◌≤◌, ◌-◌}
 use mathlib.Core.Path.{◌≡◌}
-use borrow.Author.Rules.{rules}
-use Rattle.book.specs.Book.{kept_entries, entries_of}
-use Rattle.book.proofs.Loading.{kept_next, kept_end}
+use Rattle.book.specs.Book.{kept_entries}
 use Rattle.book.proofs.bytes.load.Given as goal
 
 abbrev pub invariant-loop-i : goal.invariant-loop-i

@@ -1,5 +1,4 @@
 -- `start_fault` finds 1, 2, 3 or nothing in that order. Assumes nothing.
-use borrow.Author.Rules.{rules}
 use Rattle.book.proofs.Header.{starts}
 use Rattle.book.proofs.bytes.start_fault.Goals as goal
 

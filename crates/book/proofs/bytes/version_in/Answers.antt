@@ -1,5 +1,4 @@
 -- `version_in` gives the version of the bytes. Assumes nothing.
-use borrow.Author.Rules.{rules}
 use Rattle.book.specs.Book.{version_in}
 use Rattle.book.proofs.bytes.version_in.Goals as goal
 

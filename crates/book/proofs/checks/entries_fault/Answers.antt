@@ -1,11 +1,5 @@
 -- `entries_fault` gives the first fault that an entry has: what is left to check gives what all gives. Assumes nothing.
-use Prim.Native.Nat.{◌≤◌, ◌-◌}
-use mathlib.Core.Path.{◌≡◌}
-use mathlib.Core.List.{[]}
-use lib.ListN.{length, take, drop}
 use borrow.Author.Rules.{rules}
-use Rattle.book.specs.Book.{most_entries}
-use Rattle.book.specs.Refusals.{each_fault}
 use Rattle.book.proofs.Entries.{runs}
 use Rattle.book.proofs.checks.entries_fault.Goals as goal
 

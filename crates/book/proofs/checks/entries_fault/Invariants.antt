@@ -2,10 +2,8 @@ use Prim.Native.Nat.{◌≤◌, ◌-◌}
 use mathlib.Core.Path.{◌≡◌}
 use mathlib.Core.List.{[]}
 use lib.ListN.{length, take, drop}
-use borrow.Author.Rules.{rules}
 use Rattle.book.specs.Book.{most_entries}
 use Rattle.book.specs.Refusals.{each_fault}
-use Rattle.book.proofs.Entries.{runs}
 use Rattle.book.proofs.checks.entries_fault.Given as goal
 
 abbrev pub invariant-loop-i : goal.invariant-loop-i

@@ -1,5 +1,4 @@
 -- `entry_fault` finds 8, 17, 9, 10 or nothing in that order. Assumes nothing.
-use borrow.Author.Rules.{rules}
 use Rattle.book.proofs.Entries.{entry_ways}
 use Rattle.book.proofs.checks.entry_fault.Goals as goal
 

@@ -1,5 +1,4 @@
 -- `is_none` compares an entry with no_entry. Assumes nothing.
-use borrow.Author.Rules.{rules}
 use Rattle.book.proofs.checks.is_none.Goals as goal
 
 pub returns : goal.returns

@@ -1,10 +1,8 @@
 use Prim.Native.Nat.{◌≤◌, ◌-◌}
 use mathlib.Core.Path.{◌≡◌}
 use lib.ListN.{length, drop}
-use borrow.Author.Rules.{rules}
 use Rattle.book.specs.Book.{most_entries}
 use Rattle.book.specs.Kept.{all_none}
-use Rattle.book.proofs.Entries.{nones}
 use Rattle.book.proofs.checks.is_padded.Given as goal
 
 abbrev pub invariant-loop-i : goal.invariant-loop-i

@@ -1,9 +1,5 @@
 -- `seen` looks among the earlier entries: what is left to look at decides as all does. Assumes nothing.
-use Prim.Native.Nat.{◌≤◌, ◌-◌}
-use mathlib.Core.Path.{◌≡◌}
-use lib.ListN.{length, take}
 use borrow.Author.Rules.{rules}
-use Rattle.book.specs.Book.{most_entries}
 use Rattle.book.specs.Refusals.{seen_in}
 use Rattle.book.proofs.Entries.{seen_next, seen_end}
 use Rattle.book.proofs.checks.seen.Goals as goal

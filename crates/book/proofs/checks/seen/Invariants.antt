@@ -1,10 +1,8 @@
 use Prim.Native.Nat.{◌≤◌, ◌-◌}
 use mathlib.Core.Path.{◌≡◌}
 use lib.ListN.{length, take}
-use borrow.Author.Rules.{rules}
 use Rattle.book.specs.Book.{most_entries}
 use Rattle.book.specs.Refusals.{seen_in}
-use Rattle.book.proofs.Entries.{seen_next, seen_end}
 use Rattle.book.proofs.checks.seen.Given as goal
 
 abbrev pub invariant-loop-j : goal.invariant-loop-j

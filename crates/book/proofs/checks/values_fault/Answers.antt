@@ -1,5 +1,4 @@
 -- `values_fault` finds 4, 5, 6, 7 or nothing in that order. Assumes nothing.
-use borrow.Author.Rules.{rules}
 use Rattle.book.proofs.Header.{values}
 use Rattle.book.proofs.checks.values_fault.Goals as goal
 

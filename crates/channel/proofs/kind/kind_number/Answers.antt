@@ -1,5 +1,4 @@
 -- `channel::kind::kind_number` meets its contract. Assumes nothing.
-use borrow.Author.Rules.{rules}
 use Rattle.channel.proofs.KindTable.{row_entry}
 use Rattle.channel.proofs.kind.kind_number.Goals as goal
 

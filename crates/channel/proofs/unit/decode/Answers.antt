@@ -2,7 +2,6 @@
 use Rattle.channel.specs.Forms.{decoded}
 use Rattle.channel.proofs.Said.{decoded_said}
 use mathlib.Core.Path.{sym, ◌∙◌}
-use borrow.Author.Rules.{rules}
 use Rattle.channel.proofs.unit.decode.Goals as goal
 
 pub returns-then-is_data : goal.returns-then-is_data

@@ -2,7 +2,6 @@
 use Rattle.channel.specs.Forms.{encoded}
 use Rattle.channel.proofs.Said.{encoded_said}
 use mathlib.Core.Path.{sym, ◌∙◌}
-use borrow.Author.Rules.{rules}
 use Rattle.channel.proofs.unit.encode.Goals as goal
 
 pub returns-then-fits : goal.returns-then-fits

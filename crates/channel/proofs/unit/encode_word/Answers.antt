@@ -2,7 +2,6 @@
 use Rattle.channel.specs.Forms.{encoded_word}
 use Rattle.channel.proofs.Said.{word_said}
 use mathlib.Core.Path.{sym, ◌∙◌}
-use borrow.Author.Rules.{rules}
 use Rattle.channel.proofs.unit.encode_word.Goals as goal
 
 pub returns-then-word_fits : goal.returns-then-word_fits

@@ -1,5 +1,4 @@
 -- `channel::unit::is_data` meets its contract. Assumes nothing.
-use borrow.Author.Rules.{rules}
 use Rattle.channel.proofs.unit.is_data.Goals as goal
 
 pub returns-in-Six : goal.returns-in-Six

@@ -1,7 +1,6 @@
 -- `channel::unit::word_of` meets its contract. Assumes nothing.
 use Rattle.channel.proofs.Words.{size_positive, rest_is_byte, octet_whole}
 use Rattle.channel.specs.Forms.{word_of}
-use borrow.Author.Rules.{rules}
 use Rattle.channel.proofs.unit.word_of.Goals as goal
 
 pub returns-then-w-ge8 : goal.returns-then-w-ge8

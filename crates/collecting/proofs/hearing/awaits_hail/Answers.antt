@@ -1,5 +1,4 @@
 -- `collecting::hearing::awaits_hail` meets its contract. Assumes nothing.
-use borrow.Author.Rules.{rules}
 use Rattle.collecting.proofs.hearing.awaits_hail.Goals as goal
 
 pub returns-in-Run : goal.returns-in-Run

@@ -2,7 +2,6 @@
 use mathlib.Core.Path.{◌∙◌}
 use Rattle.collecting.specs.DueNibble.{dropped_by}
 use Rattle.collecting.proofs.OtherKinds.{no_dl}
-use borrow.Author.Rules.{rules}
 use Rattle.collecting.proofs.hearing.dropped_by.Goals as goal
 
 pub returns-in-Dl : goal.returns-in-Dl

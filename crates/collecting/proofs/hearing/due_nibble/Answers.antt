@@ -1,7 +1,6 @@
 -- `collecting::hearing::due_nibble` meets its contract. Assumes nothing.
 use Rattle.collecting.specs.DueNibble.{due_nibble}
 use Rattle.collecting.proofs.OtherKinds.{no_nibble}
-use borrow.Author.Rules.{rules}
 use Rattle.collecting.proofs.hearing.due_nibble.Goals as goal
 
 pub returns-in-Dl : goal.returns-in-Dl

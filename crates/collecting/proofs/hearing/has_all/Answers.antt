@@ -1,5 +1,4 @@
 -- `collecting::hearing::has_all` meets its contract. Assumes nothing.
-use borrow.Author.Rules.{rules}
 use Rattle.collecting.proofs.hearing.has_all.Goals as goal
 
 pub returns : goal.returns

@@ -1,5 +1,4 @@
 -- `collecting::hearing::has_identifier` meets its contract. Assumes nothing.
-use borrow.Author.Rules.{rules}
 use Rattle.collecting.proofs.hearing.has_identifier.Goals as goal
 
 pub returns : goal.returns

@@ -1,6 +1,5 @@
 -- `collecting::hearing::hear` meets its contract. Assumes nothing.
 use Rattle.protocol.specs.Collecting.{hear_at}
-use borrow.Author.Rules.{rules}
 use Rattle.collecting.proofs.hearing.hear.Goals as goal
 
 pub returns-in-Run : goal.returns-in-Run

@@ -1,5 +1,4 @@
 -- `collecting::hearing::held` meets its contract. Assumes nothing.
-use borrow.Author.Rules.{rules}
 use Rattle.collecting.proofs.hearing.held.Goals as goal
 
 pub returns-then-due : goal.returns-then-due

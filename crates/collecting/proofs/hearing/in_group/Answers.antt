@@ -1,7 +1,6 @@
 -- `collecting::hearing::in_group` meets its contract. Assumes nothing.
 use Rattle.collecting.proofs.DueBytes.{placed}
 use Rattle.collecting.proofs.InGroup.{grouped}
-use borrow.Author.Rules.{rules}
 use Rattle.collecting.proofs.hearing.in_group.Goals as goal
 
 pub grown-requires : goal.grown-requires

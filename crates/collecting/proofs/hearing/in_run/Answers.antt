@@ -1,6 +1,5 @@
 -- `collecting::hearing::in_run` meets its contract. Assumes nothing.
 use Rattle.protocol.specs.Collecting.{in_run}
-use borrow.Author.Rules.{rules}
 use Rattle.collecting.proofs.hearing.in_run.Goals as goal
 
 pub returns : goal.returns

@@ -1,6 +1,5 @@
 -- `collecting::hearing::next_after` meets its contract. Assumes nothing.
 use borrow.Author.Tests.{lt-ltb, le-ltb}
-use borrow.Author.Rules.{rules}
 use Rattle.collecting.proofs.hearing.next_after.Goals as goal
 
 pub returns-then-item-lt5 : goal.returns-then-item-lt5

@@ -1,7 +1,6 @@
 -- `collecting::hearing::of_run` meets its contract. Assumes nothing.
 use Rattle.protocol.specs.Collecting.{of_run}
 use Rattle.collecting.proofs.OtherKinds.{no_run}
-use borrow.Author.Rules.{rules}
 use Rattle.collecting.proofs.hearing.of_run.Goals as goal
 
 pub returns-in-Sgvi : goal.returns-in-Sgvi

@@ -1,7 +1,6 @@
 -- `collecting::hearing::run_after` meets its contract. Assumes nothing.
 use borrow.Author.Tests.{lt-ltb, le-ltb}
 use mathlib.Core.Path.{sym}
-use borrow.Author.Rules.{rules}
 use Rattle.collecting.proofs.hearing.run_after.Goals as goal
 
 pub returns-then-wide : goal.returns-then-wide

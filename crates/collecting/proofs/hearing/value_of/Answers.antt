@@ -1,7 +1,6 @@
 -- `collecting::hearing::value_of` meets its contract. Assumes nothing.
 use Rattle.protocol.specs.Collecting.{value_of}
 use Rattle.collecting.proofs.EightBits.{eight_bits}
-use borrow.Author.Rules.{rules}
 use Rattle.collecting.proofs.hearing.value_of.Goals as goal
 
 pub returns : goal.returns

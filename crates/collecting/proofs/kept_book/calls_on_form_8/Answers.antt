@@ -1,5 +1,4 @@
 -- `collecting::kept_book::calls_on_form_8` meets its contract. Assumes nothing.
-use borrow.Author.Rules.{rules}
 use Rattle.collecting.proofs.kept_book.calls_on_form_8.Goals as goal
 
 pub returns : goal.returns

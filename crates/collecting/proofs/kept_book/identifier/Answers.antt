@@ -1,6 +1,5 @@
 -- `collecting::kept_book::identifier` meets its contract. Assumes nothing.
 use mathlib.Core.Path.{sym, ◌∙◌}
-use borrow.Author.Rules.{rules}
 use Rattle.protocol.specs.Exchange.{identifier}
 use Rattle.collecting.proofs.kept_book.identifier.Goals as goal
 

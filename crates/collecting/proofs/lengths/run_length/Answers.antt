@@ -1,7 +1,6 @@
 -- `collecting::lengths::run_length` meets its contract. Assumes nothing.
 use borrow.Author.Tests.{ne_eqb}
 use Rattle.protocol.specs.Lengths.{identifier_run}
-use borrow.Author.Rules.{rules}
 use Rattle.collecting.proofs.lengths.run_length.Goals as goal
 
 pub returns-then-item-eq0 : goal.returns-then-item-eq0

@@ -1,7 +1,6 @@
 -- `endpoint::slot::clocked` meets its contract. Assumes nothing.
 use native.Mathlib.Omega.{arith}
 use Rattle.endpoint.proofs.Clock.{clock_runs, clock_ends}
-use borrow.Author.Rules.{rules}
 use Rattle.endpoint.proofs.slot.clocked.Goals as goal
 
 pub returns-then-slot-b : goal.returns-then-slot-b

@@ -1,6 +1,5 @@
 -- `endpoint::slot::exchange_step` meets its contract. Assumes nothing.
 use Rattle.endpoint.proofs.Steps.{step_stays, step_opens_hearing, step_opens_sending, step_refuses}
-use borrow.Author.Rules.{rules}
 use Rattle.endpoint.proofs.slot.exchange_step.Goals as goal
 
 pub returns-in-Stays : goal.returns-in-Stays

@@ -1,6 +1,5 @@
 -- `endpoint::slot::offer_allowed` meets its contract. Assumes nothing.
 use Rattle.protocol.specs.Slot.{offer_allowed}
-use borrow.Author.Rules.{rules}
 use Rattle.endpoint.proofs.slot.offer_allowed.Goals as goal
 
 pub returns-in-Exchanging : goal.returns-in-Exchanging

@@ -1,5 +1,4 @@
 -- `endpoint::slot::offer_fits` meets its contract. Assumes nothing.
-use borrow.Author.Rules.{rules}
 use Rattle.endpoint.proofs.slot.offer_fits.Goals as goal
 
 pub returns-in-Unit : goal.returns-in-Unit

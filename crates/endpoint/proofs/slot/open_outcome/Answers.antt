@@ -1,6 +1,5 @@
 -- `endpoint::slot::open_outcome` meets its contract. Assumes nothing.
 use Rattle.protocol.specs.Slot.{outcome_at}
-use borrow.Author.Rules.{rules}
 use Rattle.endpoint.proofs.slot.open_outcome.Goals as goal
 
 pub returns : goal.returns

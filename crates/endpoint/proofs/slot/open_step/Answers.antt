@@ -1,6 +1,5 @@
 -- `endpoint::slot::open_step` meets its contract. Assumes nothing.
 use Rattle.protocol.specs.Slot.{open_step}
-use borrow.Author.Rules.{rules}
 use Rattle.endpoint.proofs.slot.open_step.Goals as goal
 
 pub returns : goal.returns

@@ -1,5 +1,4 @@
 -- `endpoint::slot::opens_hearing` meets its contract. Assumes nothing.
-use borrow.Author.Rules.{rules}
 use Rattle.endpoint.proofs.slot.opens_hearing.Goals as goal
 
 pub returns : goal.returns

@@ -1,7 +1,6 @@
 -- `endpoint::slot::outcome` meets its contract. Assumes nothing.
 use Rattle.protocol.specs.Slot.{outcome_at}
 use Rattle.endpoint.proofs.Says.{stands}
-use borrow.Author.Rules.{rules}
 use Rattle.endpoint.proofs.slot.outcome.Goals as goal
 
 pub returns-in-Exchanging : goal.returns-in-Exchanging

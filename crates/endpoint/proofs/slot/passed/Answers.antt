@@ -1,5 +1,4 @@
 -- `endpoint::slot::passed` meets its contract. Assumes nothing.
-use borrow.Author.Rules.{rules}
 use Rattle.endpoint.proofs.slot.passed.Goals as goal
 
 pub returns : goal.returns

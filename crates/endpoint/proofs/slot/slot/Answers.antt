@@ -3,7 +3,6 @@ use mathlib.Core.Path.{sym, ◌∙◌}
 use Rattle.protocol.specs.Slot.{slot_of}
 use Rattle.endpoint.proofs.Says.{replies}
 use Rattle.endpoint.proofs.Steps.{slot_passes}
-use borrow.Author.Rules.{rules}
 use Rattle.endpoint.proofs.slot.slot.Goals as goal
 
 pub returns-then-offer_allowed : goal.returns-then-offer_allowed

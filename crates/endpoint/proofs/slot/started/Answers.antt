@@ -1,6 +1,5 @@
 -- `endpoint::slot::started` meets its contract. Assumes nothing.
 use Rattle.protocol.specs.Slot.{started}
-use borrow.Author.Rules.{rules}
 use Rattle.endpoint.proofs.slot.started.Goals as goal
 
 pub returns : goal.returns

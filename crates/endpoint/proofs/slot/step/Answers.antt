@@ -1,7 +1,6 @@
 -- `endpoint::slot::step` meets its contract. Assumes nothing.
 use Rattle.protocol.specs.Sent.{byte_sent}
 use Rattle.protocol.specs.Slot.{step_at}
-use borrow.Author.Rules.{rules}
 use Rattle.endpoint.proofs.slot.step.Goals as goal
 
 pub returns-in-Exchanging : goal.returns-in-Exchanging

@@ -1,6 +1,5 @@
 -- `endpoint::slot::well_formed` meets its contract. Assumes nothing.
 use Rattle.protocol.specs.Ranges.{well_formed}
-use borrow.Author.Rules.{rules}
 use Rattle.endpoint.proofs.slot.well_formed.Goals as goal
 
 pub returns : goal.returns

@@ -1,6 +1,5 @@
 -- `exchange::acting::acted` meets its contract. Assumes nothing.
 use Rattle.protocol.specs.Exchange.{acted}
-use borrow.Author.Rules.{rules}
 use Rattle.exchange.proofs.acting.acted.Goals as goal
 
 pub returns : goal.returns

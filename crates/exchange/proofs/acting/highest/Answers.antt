@@ -1,7 +1,6 @@
 -- `exchange::acting::highest` meets its contract. Assumes nothing.
 use mathlib.Core.Path.{sym, ◌∙◌}
 use Rattle.exchange.proofs.Settled.{version_highest, nothing_highest}
-use borrow.Author.Rules.{rules}
 use Rattle.exchange.proofs.acting.highest.Goals as goal
 
 pub returns-in-Version : goal.returns-in-Version

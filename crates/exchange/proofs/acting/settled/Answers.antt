@@ -1,5 +1,4 @@
 -- `exchange::acting::settled` meets its contract. Assumes nothing.
-use borrow.Author.Rules.{rules}
 use Rattle.exchange.proofs.acting.settled.Goals as goal
 
 pub returns-then-settling : goal.returns-then-settling

@@ -1,5 +1,4 @@
 -- `exchange::acting::settles` meets its contract. Assumes nothing.
-use borrow.Author.Rules.{rules}
 use Rattle.exchange.proofs.acting.settles.Goals as goal
 
 pub returns : goal.returns

@@ -1,7 +1,6 @@
 -- `exchange::answering::chosen_answering` meets its contract. Assumes nothing.
 use Rattle.exchange.proofs.Choices.{answering_chooses}
 use Rattle.protocol.specs.Exchange.{chosen_answering}
-use borrow.Author.Rules.{rules}
 use Rattle.exchange.proofs.answering.chosen_answering.Goals as goal
 
 pub returns-then-has_all : goal.returns-then-has_all

@@ -1,5 +1,4 @@
 -- `exchange::answering::opens_on` meets its contract. Assumes nothing.
-use borrow.Author.Rules.{rules}
 use Rattle.exchange.proofs.answering.opens_on.Goals as goal
 
 pub returns-in-Entry : goal.returns-in-Entry

@@ -1,5 +1,4 @@
 -- `exchange::answering::settles_none` meets its contract. Assumes nothing.
-use borrow.Author.Rules.{rules}
 use Rattle.exchange.proofs.answering.settles_none.Goals as goal
 
 pub returns : goal.returns

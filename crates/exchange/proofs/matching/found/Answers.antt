@@ -1,5 +1,4 @@
 -- `exchange::matching::found` meets its contract. Assumes nothing.
-use borrow.Author.Rules.{rules}
 use Rattle.exchange.proofs.matching.found.Goals as goal
 
 pub returns-then-here : goal.returns-then-here

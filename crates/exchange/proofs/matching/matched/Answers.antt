@@ -1,8 +1,6 @@
 -- `exchange::matching::matched` meets its contract. Assumes nothing.
 use Rattle.exchange.proofs.MatchedOn.{match_on}
-use borrow.Author.Rules.{rules}
 use Rattle.protocol.specs.Exchange.{match_in}
-use Prim.Native.Nat.{◌≤◌, ◌-◌}
 use mathlib.Core.Path.{◌≡◌, refl}
 use native.Mathlib.Omega.{arith}
 use Rattle.exchange.proofs.matching.matched.Goals as goal

@@ -1,9 +1,6 @@
-use Rattle.exchange.proofs.MatchedOn.{match_on}
-use borrow.Author.Rules.{rules}
 use Rattle.protocol.specs.Exchange.{match_in}
 use Prim.Native.Nat.{◌≤◌, ◌-◌}
-use mathlib.Core.Path.{◌≡◌, refl}
-use native.Mathlib.Omega.{arith}
+use mathlib.Core.Path.{◌≡◌}
 use Rattle.exchange.proofs.matching.matched.Given as goal
 
 abbrev pub invariant-loop-i : goal.invariant-loop-i

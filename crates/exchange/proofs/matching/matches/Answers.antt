@@ -1,5 +1,4 @@
 -- `exchange::matching::matches` meets its contract. Assumes nothing.
-use borrow.Author.Rules.{rules}
 use Rattle.exchange.proofs.matching.matches.Goals as goal
 
 pub returns : goal.returns

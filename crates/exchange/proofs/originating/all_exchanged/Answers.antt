@@ -1,5 +1,4 @@
 -- `exchange::originating::all_exchanged` meets its contract. Assumes nothing.
-use borrow.Author.Rules.{rules}
 use Rattle.exchange.proofs.originating.all_exchanged.Goals as goal
 
 pub returns : goal.returns

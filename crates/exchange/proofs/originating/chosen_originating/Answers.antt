@@ -1,7 +1,6 @@
 -- `exchange::originating::chosen_originating` meets its contract. Assumes nothing.
 use Rattle.exchange.proofs.Choices.{originating_chooses}
 use Rattle.protocol.specs.Exchange.{chosen_originating}
-use borrow.Author.Rules.{rules}
 use Rattle.exchange.proofs.originating.chosen_originating.Goals as goal
 
 pub returns-then-awaits_hail : goal.returns-then-awaits_hail

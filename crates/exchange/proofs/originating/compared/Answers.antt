@@ -1,6 +1,5 @@
 -- `exchange::originating::compared` meets its contract. Assumes nothing.
 use Rattle.exchange.proofs.Compared.{compares}
-use borrow.Author.Rules.{rules}
 use Rattle.exchange.proofs.originating.compared.Goals as goal
 
 pub returns-then-has_params : goal.returns-then-has_params

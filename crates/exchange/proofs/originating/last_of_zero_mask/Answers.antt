@@ -1,5 +1,4 @@
 -- `exchange::originating::last_of_zero_mask` meets its contract. Assumes nothing.
-use borrow.Author.Rules.{rules}
 use Rattle.exchange.proofs.originating.last_of_zero_mask.Goals as goal
 
 pub returns : goal.returns

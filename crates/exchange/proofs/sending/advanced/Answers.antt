@@ -1,6 +1,5 @@
 -- `exchange::sending::advanced` meets its contract. Assumes nothing.
 use Rattle.protocol.specs.Exchange.{advanced}
-use borrow.Author.Rules.{rules}
 use Rattle.exchange.proofs.sending.advanced.Goals as goal
 
 pub returns-in-Idle : goal.returns-in-Idle

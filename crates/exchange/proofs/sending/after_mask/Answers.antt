@@ -2,7 +2,6 @@
 use mathlib.Core.Path.{sym}
 use Rattle.protocol.specs.Exchange.{advanced}
 use borrow.Author.Tests.{lt-ltb, le-ltb}
-use borrow.Author.Rules.{rules}
 use Rattle.exchange.proofs.sending.after_mask.Goals as goal
 
 pub returns-then-i : goal.returns-then-i

@@ -1,7 +1,6 @@
 -- `exchange::sending::after_parameter` meets its contract. Assumes nothing.
 use Rattle.protocol.specs.Exchange.{advanced}
 use borrow.Author.Tests.{lt-ltb, le-ltb}
-use borrow.Author.Rules.{rules}
 use Rattle.exchange.proofs.sending.after_parameter.Goals as goal
 
 pub returns-then-i-all_parameter_bytes : goal.returns-then-i-all_parameter_bytes

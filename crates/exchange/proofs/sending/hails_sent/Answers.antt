@@ -1,6 +1,5 @@
 -- `exchange::sending::hails_sent` meets its contract. Assumes nothing.
 use Rattle.exchange.proofs.Hails.{one_more, no_more}
-use borrow.Author.Rules.{rules}
 use Rattle.exchange.proofs.sending.hails_sent.Goals as goal
 
 pub returns-then-n-lt-IDENTIFIER_RUN : goal.returns-then-n-lt-IDENTIFIER_RUN

@@ -1,5 +1,4 @@
 -- `exchange::sending::last_of_all` meets its contract. Assumes nothing.
-use borrow.Author.Rules.{rules}
 use Rattle.exchange.proofs.sending.last_of_all.Goals as goal
 
 pub returns-in-Parameters : goal.returns-in-Parameters

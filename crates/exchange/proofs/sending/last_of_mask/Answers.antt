@@ -1,5 +1,4 @@
 -- `exchange::sending::last_of_mask` meets its contract. Assumes nothing.
-use borrow.Author.Rules.{rules}
 use Rattle.exchange.proofs.sending.last_of_mask.Goals as goal
 
 pub returns-in-Mask : goal.returns-in-Mask

@@ -1,7 +1,6 @@
 -- `exchange::sent::byte_sent` meets its contract. Assumes nothing.
 use Rattle.protocol.specs.Sent.{byte_sent}
 use Rattle.protocol.specs.Exchange.{sent_as}
-use borrow.Author.Rules.{rules}
 use Rattle.exchange.proofs.sent.byte_sent.Goals as goal
 
 pub returns-in-Idle : goal.returns-in-Idle

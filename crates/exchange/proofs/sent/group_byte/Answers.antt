@@ -1,6 +1,5 @@
 -- `exchange::sent::group_byte` meets its contract. Assumes nothing.
 use borrow.Author.Tests.{ne_eqb}
-use borrow.Author.Rules.{rules}
 use Rattle.exchange.proofs.sent.group_byte.Goals as goal
 
 pub returns-then-place-eq0 : goal.returns-then-place-eq0

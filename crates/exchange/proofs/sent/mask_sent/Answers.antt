@@ -1,6 +1,5 @@
 -- `exchange::sent::mask_sent` meets its contract. Assumes nothing.
 use mathlib.Core.Path.{sym}
-use borrow.Author.Rules.{rules}
 use Rattle.exchange.proofs.sent.mask_sent.Goals as goal
 
 pub returns-then-originates-version : goal.returns-then-originates-version

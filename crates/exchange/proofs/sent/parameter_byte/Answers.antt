@@ -1,6 +1,5 @@
 -- `exchange::sent::parameter_byte` meets its contract. Assumes nothing.
 use Rattle.exchange.proofs.ParameterBytes.{parameter_laid}
-use borrow.Author.Rules.{rules}
 use Rattle.exchange.proofs.sent.parameter_byte.Goals as goal
 
 pub returns-then-place-lead : goal.returns-then-place-lead

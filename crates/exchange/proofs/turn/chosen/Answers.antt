@@ -1,6 +1,5 @@
 -- `exchange::turn::chosen` meets its contract. Assumes nothing.
 use mathlib.Core.Path.{sym}
-use borrow.Author.Rules.{rules}
 use Rattle.exchange.proofs.turn.chosen.Goals as goal
 
 pub returns-then-originates : goal.returns-then-originates

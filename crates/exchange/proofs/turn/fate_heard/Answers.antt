@@ -1,6 +1,5 @@
 -- `exchange::turn::fate_heard` meets its contract. Assumes nothing.
 use Rattle.exchange.proofs.Fates.{fates_heard}
-use borrow.Author.Rules.{rules}
 use Rattle.exchange.proofs.turn.fate_heard.Goals as goal
 
 pub returns-then-all_exchanged : goal.returns-then-all_exchanged

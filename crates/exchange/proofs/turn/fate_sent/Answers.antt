@@ -1,6 +1,5 @@
 -- `exchange::turn::fate_sent` meets its contract. Assumes nothing.
 use Rattle.exchange.proofs.Fates.{fates_sent}
-use borrow.Author.Rules.{rules}
 use Rattle.exchange.proofs.turn.fate_sent.Goals as goal
 
 pub returns-then-last_of_zero_mask : goal.returns-then-last_of_zero_mask

@@ -1,6 +1,5 @@
 -- `exchange::turn::first_exchange` meets its contract. Assumes nothing.
 use Rattle.protocol.specs.Exchange.{first_exchange}
-use borrow.Author.Rules.{rules}
 use Rattle.exchange.proofs.turn.first_exchange.Goals as goal
 
 pub returns : goal.returns

@@ -1,6 +1,5 @@
 -- `exchange::turn::first_sending` meets its contract. Assumes nothing.
 use mathlib.Core.Path.{sym}
-use borrow.Author.Rules.{rules}
 use Rattle.exchange.proofs.turn.first_sending.Goals as goal
 
 pub returns-then-originates : goal.returns-then-originates

@@ -1,6 +1,5 @@
 -- `exchange::turn::sends` meets its contract. Assumes nothing.
 use Rattle.protocol.specs.Exchange.{sends}
-use borrow.Author.Rules.{rules}
 use Rattle.exchange.proofs.turn.sends.Goals as goal
 
 pub returns : goal.returns

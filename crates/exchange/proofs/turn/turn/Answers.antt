@@ -1,6 +1,5 @@
 -- `exchange::turn::turn` meets its contract. Assumes nothing.
 use Rattle.exchange.proofs.Turns.{turns}
-use borrow.Author.Rules.{rules}
 use Rattle.exchange.proofs.turn.turn.Goals as goal
 
 pub returns-in-Stays : goal.returns-in-Stays

@@ -1,5 +1,4 @@
 -- `idle` is the idle drive. Assumes nothing.
-use borrow.Author.Rules.{rules}
 use Rattle.opened.proofs.drive.idle.Goals as goal
 
 pub returns : goal.returns

@@ -1,6 +1,5 @@
 -- `fresh_line` is `fresh_line`. Assumes nothing.
 use Rattle.protocol.specs.Opened.{fresh_line}
-use borrow.Author.Rules.{rules}
 use Rattle.opened.proofs.line.fresh_line.Goals as goal
 
 pub returns : goal.returns

@@ -1,5 +1,4 @@
 -- `idle_signals` is `idle_signals`. Assumes nothing.
-use borrow.Author.Rules.{rules}
 use Rattle.opened.proofs.line.idle_signals.Goals as goal
 
 pub returns : goal.returns

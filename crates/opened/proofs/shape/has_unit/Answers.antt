@@ -1,5 +1,4 @@
 -- `has_unit` is `has_unit`. Assumes nothing.
-use borrow.Author.Rules.{rules}
 use Rattle.protocol.specs.Opened.{has_unit}
 use Rattle.opened.proofs.shape.has_unit.Goals as goal
 

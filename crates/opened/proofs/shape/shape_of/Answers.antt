@@ -22,7 +22,7 @@ returns-then-e-eq7 c = simp (ne_eqb _ _ c.if-version-eq1.false, c.if-e-eq7.true)
 pub returns : goal.returns
 unfolding shape_of
 returns c = simp (
-      ne_eqb _ _ c.if-e-eq7.false,
-      ne_eqb _ _ c.if-e-eq6.false,
-      ne_eqb _ _ c.if-e-eq0.false,
-    )
+  ne_eqb _ _ c.if-e-eq7.false,
+  ne_eqb _ _ c.if-e-eq6.false,
+  ne_eqb _ _ c.if-e-eq0.false,
+)

@@ -1,5 +1,4 @@
 -- `pair::join::join` meets its contract. Assumes nothing.
-use borrow.Author.Rules.{rules}
 use Rattle.pair.proofs.BooksJoined.{joinings}
 use Rattle.pair.proofs.join.join.Goals as goal
 

@@ -1,7 +1,6 @@
 -- `pair::report::at_fault` meets its contract. Assumes nothing.
 use Rattle.pair.specs.Report.{at_fault}
 use Rattle.text.proofs.Joined.{then}
-use borrow.Author.Rules.{rules}
 use Rattle.pair.proofs.report.at_fault.Goals as goal
 
 pub returns : goal.returns

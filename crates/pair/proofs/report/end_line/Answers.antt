@@ -1,6 +1,5 @@
 -- `pair::report::end_line` meets its contract. Assumes nothing.
 use Rattle.pair.specs.Report.{end_line}
-use borrow.Author.Rules.{rules}
 use Rattle.pair.proofs.report.end_line.Goals as goal
 
 pub returns-in-Exchanging : goal.returns-in-Exchanging

@@ -1,7 +1,6 @@
 -- `pair::report::lines` meets its contract. Assumes nothing.
 use Rattle.pair.specs.Report.{lines_of}
 use Rattle.text.proofs.Joined.{text_then}
-use borrow.Author.Rules.{rules}
 use Rattle.pair.proofs.report.lines.Goals as goal
 
 pub returns-in-InputRefused : goal.returns-in-InputRefused

@@ -1,7 +1,6 @@
 -- `pair::report::open_line` meets its contract. Assumes nothing.
 use Rattle.pair.specs.Report.{open_line}
 use Rattle.text.proofs.Joined.{then}
-use borrow.Author.Rules.{rules}
 use Rattle.pair.proofs.report.open_line.Goals as goal
 
 pub returns : goal.returns

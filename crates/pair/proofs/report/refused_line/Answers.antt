@@ -1,7 +1,6 @@
 -- `pair::report::refused_line` meets its contract. Assumes nothing.
 use Rattle.pair.specs.Report.{refused_line}
 use Rattle.text.proofs.Joined.{then}
-use borrow.Author.Rules.{rules}
 use Rattle.pair.proofs.report.refused_line.Goals as goal
 
 pub returns : goal.returns

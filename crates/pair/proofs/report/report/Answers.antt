@@ -1,5 +1,4 @@
 -- `pair::report::report` meets its contract. Assumes nothing.
-use borrow.Author.Rules.{rules}
 use Rattle.pair.specs.Report.{joining_in}
 use Rattle.pair.proofs.Reported.{joined_lines, reports}
 use Rattle.pair.proofs.report.report.Goals as goal

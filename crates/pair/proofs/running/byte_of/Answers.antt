@@ -1,5 +1,4 @@
 -- `pair::running::byte_of` meets its contract. Assumes nothing.
-use borrow.Author.Rules.{rules}
 use Rattle.pair.proofs.running.byte_of.Goals as goal
 
 pub returns-in-Passed : goal.returns-in-Passed

@@ -1,6 +1,5 @@
 -- `pair::running::has_concluded` meets its contract. Assumes nothing.
 use mathlib.Core.Path.{sym, ap, ◌∙◌}
-use borrow.Author.Rules.{rules}
 use Rattle.pair.specs.Running.{has_concluded}
 use Rattle.pair.proofs.running.has_concluded.Goals as goal
 

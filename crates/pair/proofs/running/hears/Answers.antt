@@ -1,5 +1,4 @@
 -- `pair::running::hears` meets its contract. Assumes nothing.
-use borrow.Author.Rules.{rules}
 use Rattle.pair.proofs.running.hears.Goals as goal
 
 pub returns : goal.returns

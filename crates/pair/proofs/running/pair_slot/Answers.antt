@@ -1,6 +1,5 @@
 -- `pair::running::pair_slot` meets its contract. Assumes nothing.
 use Rattle.pair.specs.Rings.{ring_slot}
-use borrow.Author.Rules.{rules}
 use Rattle.pair.proofs.running.pair_slot.Goals as goal
 
 pub returns : goal.returns

@@ -1,6 +1,5 @@
 -- `pair::running::place_after` meets its contract. Assumes nothing.
 use borrow.Author.Tests.{lt-ltb, le-ltb}
-use borrow.Author.Rules.{rules}
 use Rattle.pair.proofs.running.place_after.Goals as goal
 
 pub returns-then-at-d : goal.returns-then-at-d

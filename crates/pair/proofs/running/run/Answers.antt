@@ -1,9 +1,6 @@
 -- `pair::running::run` meets its contract. Assumes nothing.
-use mathlib.Core.Path.{◌≡◌, refl}
+use mathlib.Core.Path.{refl}
 use native.Mathlib.Omega.{arith}
-use borrow.Author.Rules.{rules}
-use Rattle.pair.specs.Running.{ran_for}
-use Rattle.pair.specs.Rings.{pair_in, InRing}
 use Rattle.pair.proofs.UntilConcluded.{run_stopped, run_over, run_on}
 use Rattle.pair.proofs.running.run.Goals as goal
 

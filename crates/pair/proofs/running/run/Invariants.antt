@@ -1,9 +1,6 @@
-use mathlib.Core.Path.{◌≡◌, refl}
-use native.Mathlib.Omega.{arith}
-use borrow.Author.Rules.{rules}
+use mathlib.Core.Path.{◌≡◌}
 use Rattle.pair.specs.Running.{ran_for}
 use Rattle.pair.specs.Rings.{pair_in, InRing}
-use Rattle.pair.proofs.UntilConcluded.{run_stopped, run_over, run_on}
 use Rattle.pair.proofs.running.run.Given as goal
 
 abbrev pub invariant-loop-left : goal.invariant-loop-left

@@ -1,5 +1,4 @@
 -- `pair::running::with_byte` meets its contract. Assumes nothing.
-use borrow.Author.Rules.{rules}
 use Rattle.pair.proofs.running.with_byte.Goals as goal
 
 pub returns : goal.returns

@@ -1,5 +1,4 @@
 -- `script::input::fault` meets its contract. Assumes nothing.
-use borrow.Author.Rules.{rules}
 use Rattle.script.proofs.Slots.{too_large, length_cut, book_cut, by_slots}
 use Rattle.script.proofs.input.fault.Goals as goal
 

@@ -1,5 +1,4 @@
 -- `script::input::is_stray` meets its contract. Assumes nothing.
-use borrow.Author.Rules.{rules}
 use Rattle.script.proofs.input.is_stray.Goals as goal
 
 pub returns : goal.returns

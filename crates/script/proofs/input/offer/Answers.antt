@@ -1,5 +1,4 @@
 -- `script::input::offer` meets its contract. Assumes nothing.
-use borrow.Author.Rules.{rules}
 use Rattle.script.proofs.input.offer.Goals as goal
 
 pub returns-then-offered : goal.returns-then-offered

@@ -1,8 +1,5 @@
 -- `script::input::slots_fault` meets its contract. Assumes nothing.
-use mathlib.Core.Path.{◌≡◌, refl}
-use Prim.Native.Nat.{◌-◌, ◌≤◌}
-use lib.ListN.{length, drop}
-use Rattle.script.specs.Input.{slots_fault}
+use mathlib.Core.Path.{refl}
 use Rattle.script.proofs.Slots.{slot_cut, slot_stray, next_slot, no_slots_left}
 use borrow.Author.Rules.{rules}
 use Rattle.script.proofs.input.slots_fault.Goals as goal

@@ -1,9 +1,7 @@
-use mathlib.Core.Path.{◌≡◌, refl}
+use mathlib.Core.Path.{◌≡◌}
 use Prim.Native.Nat.{◌-◌, ◌≤◌}
 use lib.ListN.{length, drop}
 use Rattle.script.specs.Input.{slots_fault}
-use Rattle.script.proofs.Slots.{slot_cut, slot_stray, next_slot, no_slots_left}
-use borrow.Author.Rules.{rules}
 use Rattle.script.proofs.input.slots_fault.Given as goal
 
 abbrev pub invariant-loop-i : goal.invariant-loop-i

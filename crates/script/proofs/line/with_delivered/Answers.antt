@@ -1,6 +1,5 @@
 -- `script::line::with_delivered` meets its contract. Assumes nothing.
 use Rattle.script.specs.Line.{delivered_field}
-use borrow.Author.Rules.{rules}
 use Rattle.script.proofs.line.with_delivered.Goals as goal
 
 pub returns-in-Refused : goal.returns-in-Refused

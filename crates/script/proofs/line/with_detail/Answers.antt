@@ -1,7 +1,6 @@
 -- `script::line::with_detail` meets its contract. Assumes nothing.
 use Rattle.text.proofs.Joined.{appended_append}
 use Rattle.script.specs.Line.{detail_field}
-use borrow.Author.Rules.{rules}
 use Rattle.script.proofs.line.with_detail.Goals as goal
 
 pub returns-in-Exchanging : goal.returns-in-Exchanging
@@ -15,9 +14,9 @@ returns-in-Open c = simp (c.with_open.ensures, c.in-Open.is, ← appended_append
 pub returns-in-Refused : goal.returns-in-Refused
 unfolding detail_field
 returns-in-Refused c = simp (
-      c.decimal-in-Refused.ensures,
-      c.word-in-Refused.ensures,
-      c.decimal.ensures,
-      c.in-Refused.is,
-      ← appended_append,
-    )
+  c.decimal-in-Refused.ensures,
+  c.word-in-Refused.ensures,
+  c.decimal.ensures,
+  c.in-Refused.is,
+  ← appended_append,
+)

@@ -1,5 +1,4 @@
 -- `script::line::with_flag` meets its contract. Assumes nothing.
-use borrow.Author.Rules.{rules}
 use Rattle.script.proofs.line.with_flag.Goals as goal
 
 pub returns-then-on : goal.returns-then-on

@@ -2,7 +2,6 @@
 use Rattle.text.specs.Text.{appended}
 use Rattle.text.proofs.Joined.{appended_append}
 use Rattle.script.specs.Line.{refusal_note}
-use borrow.Author.Rules.{rules}
 use Rattle.script.proofs.line.with_note.Goals as goal
 
 pub returns-in-Refused : goal.returns-in-Refused

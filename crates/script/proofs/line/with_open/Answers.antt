@@ -1,16 +1,15 @@
 -- `script::line::with_open` meets its contract. Assumes nothing.
 use Rattle.text.proofs.Joined.{appended_append}
 use Rattle.script.specs.Line.{detail_field}
-use borrow.Author.Rules.{rules}
 use Rattle.script.proofs.line.with_open.Goals as goal
 
 pub returns : goal.returns
 unfolding detail_field
 returns c = simp (
-      c.decimal-2.ensures,
-      c.word-b.ensures,
-      c.parameters.ensures,
-      c.word-a.ensures,
-      c.decimal.ensures,
-      ← appended_append,
-    )
+  c.decimal-2.ensures,
+  c.word-b.ensures,
+  c.parameters.ensures,
+  c.word-a.ensures,
+  c.decimal.ensures,
+  ← appended_append,
+)

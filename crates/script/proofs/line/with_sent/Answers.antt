@@ -1,6 +1,5 @@
 -- `script::line::with_sent` meets its contract. Assumes nothing.
 use Rattle.script.specs.Line.{sent_field}
-use borrow.Author.Rules.{rules}
 use Rattle.script.proofs.line.with_sent.Goals as goal
 
 pub returns-in-Refused : goal.returns-in-Refused

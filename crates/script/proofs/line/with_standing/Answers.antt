@@ -1,6 +1,5 @@
 -- `script::line::with_standing` meets its contract. Assumes nothing.
 use Rattle.script.specs.Line.{signals_field}
-use borrow.Author.Rules.{rules}
 use Rattle.script.proofs.line.with_standing.Goals as goal
 
 pub returns-in-Exchanging : goal.returns-in-Exchanging

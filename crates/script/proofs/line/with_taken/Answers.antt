@@ -1,6 +1,5 @@
 -- `script::line::with_taken` meets its contract. Assumes nothing.
 use Rattle.script.specs.Line.{taken_field}
-use borrow.Author.Rules.{rules}
 use Rattle.script.proofs.line.with_taken.Goals as goal
 
 pub returns-then-taken : goal.returns-then-taken

@@ -1,5 +1,4 @@
 -- `script::line::with_unit` meets its contract. Assumes nothing.
-use borrow.Author.Rules.{rules}
 use Rattle.script.proofs.line.with_unit.Goals as goal
 
 pub returns-in-Nothing : goal.returns-in-Nothing

@@ -1,9 +1,6 @@
 -- `text::output::copy` meets its contract. Assumes nothing.
-use mathlib.Core.Path.{◌≡◌, refl}
-use Prim.Native.Nat.{◌-◌, ◌≤◌}
-use lib.ListN.{length}
-use lib.Seq.{paste, paste-zero}
-use Rattle.text.specs.Text.{room}
+use mathlib.Core.Path.{refl}
+use lib.Seq.{paste-zero}
 use Rattle.text.proofs.Writing.{paste_next, paste_end}
 use borrow.Author.Rules.{rules}
 use Rattle.text.proofs.output.copy.Goals as goal

@@ -1,10 +1,8 @@
-use mathlib.Core.Path.{◌≡◌, refl}
+use mathlib.Core.Path.{◌≡◌}
 use Prim.Native.Nat.{◌-◌, ◌≤◌}
 use lib.ListN.{length}
-use lib.Seq.{paste, paste-zero}
+use lib.Seq.{paste}
 use Rattle.text.specs.Text.{room}
-use Rattle.text.proofs.Writing.{paste_next, paste_end}
-use borrow.Author.Rules.{rules}
 use Rattle.text.proofs.output.copy.Given as goal
 
 abbrev pub invariant-loop-i : goal.invariant-loop-i

@@ -1,7 +1,6 @@
 -- `channel::byte::ChannelByte::sd` meets its contract. Assumes nothing.
 use native.Mathlib.Omega.{arith}
 use Rattle.channel.proofs.Built.{same_byte, sd_value}
-use borrow.Author.Rules.{rules}
 use Rattle.channel.proofs.byte.ChannelByte.sd.Goals as goal
 
 pub returns : goal.returns
