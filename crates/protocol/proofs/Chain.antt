@@ -10,7 +10,7 @@
 -- which the answerer has the originator's; no version, 21. Concluding: the parameters, both ways; open, or 22. Sender and
 -- Collects are what the last two use: an originator that sends whatever it hears, and five parameters heard by an end that rests.
 --
--- The pair. Starting: two ends that start in any two slots meet. BothConclude: each end, by its books, in its own slots. AtOnce: two ends that
+-- The pair. Starting: two ends that start in any two slots meet; Together: two that start together, in slot d. BothConclude: each end, by its books, in its own slots. AtOnce: two ends that
 -- start together. PairConcludes: the statements, where one end starts e slots after the other and where both start together.
 -- Roles: a book in each role, and what it sends as its identifier. Profile: the answerer's entry that has the originator's parameters.
 pub mod Segments
@@ -28,6 +28,7 @@ pub mod Collects
 pub mod Settling
 pub mod Concluding
 pub mod Starting
+pub mod Together
 pub mod BothConclude
 pub mod AtOnce
 pub mod PairConcludes

@@ -44,7 +44,7 @@ use Rattle.protocol.proofs.Chain.Settling as settling
 use Rattle.protocol.proofs.Chain.Concluding as concluding
 use Rattle.protocol.proofs.Chain.Timed.{core_at, end, timed, timed_said, timed_over, timed_hearing, concludes}
 use Rattle.protocol.proofs.Chain.OwnSlots.{once_started, next, core_from, said_from}
-use Rattle.protocol.proofs.Chain.Starting.{met, after_o, after_a, first, meets_by}
+use Rattle.protocol.proofs.Chain.Starting.{met_late, after_o, after_a, first, meets_by}
 use Rattle.protocol.proofs.Chain.Profile.{found_same, found_none}
 
 -- One end, whose core is known to end in a slot.
@@ -151,7 +151,7 @@ module _ {d e : ℕ} {later : Later} (bo ba : Book) {go ga : ℕ → Drive} {ho 
       (core_from o (as_o bo) ho go) (core_from a (as_a ba) ha ga) (λ t. kind_of (ho t)) (λ t. kind_of (ha t))
       (said_from o (as_o bo) ho go) (said_from a (as_a ba) ha ga)
   m =
-      met d o a h (e + enough d (as_o bo) (as_a ba)) bo ba go ga ho ha p.books.delay (after_o d e later) (after_a d e later) (first d e later)
+      met_late d o a h (e + enough d (as_o bo) (as_a ba)) bo ba go ga ho ha p.books.delay (after_o d e later) (after_a d e later) (first d e later)
       (omega (arith, meets_by d e later)) (omega (arith, p.limit_o)) (omega (arith, p.limit_a)) kept_o kept_a p.to_o p.to_a
 
   -- no version: 21

@@ -59,11 +59,24 @@ module _ (s : ℕ) (b : Book) (heard : ℕ → ℕ) (given : ℕ → Drive) (kep
   sends t q l h e =
       once_started s (Alone sgidle) (sent_at (started b) heard given) t l ∙ timed_said b heard given kept (t - s) (omega arith) q e
 
-  pub link : Link s n d (λ t. said_at b heard given (t - s)) (λ t. kind_of (other t))
-  link =
+  pub link_late : Link s n d (λ t. said_at b heard given (t - s)) (λ t. kind_of (other t))
+  link_late =
       record {
         alone = λ t c l h e. b8_ignored (other (t + d)) c (a.alone t c (sends t (Alone c) l h e));
         group =
             λ t v l h small e.
             group_heard other v (t + d) small (a.groups t v (λ j hj. sends (t + j) (Part j v) (omega arith) (omega arith) (e j hj)));
+      }
+
+-- And of an end that starts in slot 0.
+module _ (b : Book) (heard : ℕ → ℕ) (given : ℕ → Drive) (kept : (t : ℕ) → well_formed (end b heard given t) ≡ true)
+    (d n : ℕ) (within : n ≤ b.limit) (other : ℕ → ℕ) (a : Arrives d (sent_at (started b) heard given) other) where
+  pub link : Link 0 n d (said_at b heard given) (λ t. kind_of (other t))
+  link =
+      record {
+        alone = λ t c l h e. b8_ignored (other (t + d)) c (a.alone t c (timed_said b heard given kept t (omega arith) (Alone c) e));
+        group =
+            λ t v l h small e.
+            group_heard other v (t + d) small
+            (a.groups t v (λ j hj. timed_said b heard given kept (t + j) (omega arith) (Part j v) (e j hj)));
       }

@@ -29,7 +29,7 @@ use Rattle.protocol.proofs.Chain.Roles.{as_o, as_a}
 use Rattle.protocol.proofs.Chain.Meeting.{Meeting, sdidle_counts_not}
 use Rattle.protocol.proofs.Chain.Timed.{core_at, end}
 use Rattle.protocol.proofs.Chain.OwnSlots.{not_yet, core_from, said_from, runs_from}
-use Rattle.protocol.proofs.Chain.FromBytes.{link}
+use Rattle.protocol.proofs.Chain.FromBytes.{link_late}
 
 -- what holds from a slot on holds from a later one
 runs_later : {S : Type 0} {f : S → Kind → Move S} {from : ℕ} {s : ℕ → S} {heard : ℕ → Kind} {out : ℕ → Said} (x : ℕ) → from ≤ x
@@ -63,10 +63,10 @@ module _ (d o a h n : ℕ) (bo ba : Book) (go ga : ℕ → Drive) (ho ha : ℕ �
     (to_o_lem : Arrives d (sent_from a (started (as_a ba)) ha ga) ho)
     (to_a_lem : Arrives d (sent_from o (started (as_o bo)) ho go) ha) where
   link_o : Link a n d (said_from a (as_a ba) ha ga) (λ t. kind_of (ho t))
-  link_o = link a (as_a ba) (since a ha) (since a ga) kept_a d n limit-a ho to_o_lem
+  link_o = link_late a (as_a ba) (since a ha) (since a ga) kept_a d n limit-a ho to_o_lem
 
   link_a : Link o n d (said_from o (as_o bo) ho go) (λ t. kind_of (ha t))
-  link_a = link o (as_o bo) (since o ho) (since o go) kept_o d n limit-o ha to_a_lem
+  link_a = link_late o (as_o bo) (since o ho) (since o go) kept_o d n limit-o ha to_a_lem
 
   begins_o : core_from o (as_o bo) ho go o ≡ wait_o 0
   unfolding moving core_at
@@ -96,10 +96,10 @@ module _ (d o a h n : ℕ) (bo ba : Book) (go ga : ℕ → Drive) (ho ha : ℕ �
       (λ t hx hy. ap (of_run 0) (arrive link_a o h sdidle (le_refl o) (omega (arith, room)) idles_o t hx hy) ∙ sdidle_counts_not)
 
   -- they meet
-  pub met : Meeting d a h n bo ba
+  pub met_late : Meeting d a h n bo ba
       (core_from o (as_o bo) ho go) (core_from a (as_a ba) ha ga) (λ t. kind_of (ho t)) (λ t. kind_of (ha t))
       (said_from o (as_o bo) ho go) (said_from a (as_a ba) ha ga)
-  met =
+  met_late =
       record {
         ahead = ahead;
         apart = later-a;

@@ -46,25 +46,25 @@ pub record ReadsFrom (y : ℕ) (s : Shape) (e : Endpoint) (heard : ℕ → ℕ) 
   pub shows : (n : ℕ) → signals_of (stands_at e heard given (y + n)) ≡ (ins s (λ m. heard (y + m)) fresh_line.inbound n).standing
 
 module _ (e : Endpoint) (heard : ℕ → ℕ) (given : ℕ → Drive) where
-  carried_none : (x : ℕ) → ((t : ℕ) → t < x → (taken_at e heard given t ≡ false) × (fill (sent_at e heard given t) ≡ [])) → carried_before e heard given x ≡ []
+  pub carried_none : (x : ℕ) → ((t : ℕ) → t < x → (taken_at e heard given t ≡ false) × (fill (sent_at e heard given t) ≡ [])) → carried_before e heard given x ≡ []
   unfolding carried_before
   carried_none zero q = refl
   carried_none (suc x) q =
       rw (carried_none x (λ t l. q t (omega arith)), (q x (omega arith)).0, (q x (omega arith)).1) refl
 
-  delivered_none : (y : ℕ) → ((t : ℕ) → t < y → delivered_at e heard given t ≡ delivered.Nothing) → delivered_before e heard given y ≡ []
+  pub delivered_none : (y : ℕ) → ((t : ℕ) → t < y → delivered_at e heard given t ≡ delivered.Nothing) → delivered_before e heard given y ≡ []
   unfolding delivered_before
   delivered_none zero q = refl
   delivered_none (suc y) q = rw (delivered_none y (λ t l. q t (omega arith)), q y (omega arith)) refl
 
   module _ (x : ℕ) (s : Shape) (r : SendsFrom x s e heard given) where
-    carried_from : (n : ℕ) → carried_before e heard given (x + n) ≡ carried_in s r.drives n
+    pub carried_from : (n : ℕ) → carried_before e heard given (x + n) ≡ carried_in s r.drives n
     unfolding carried_before carried_in
     carried_from zero = rw (add-zero x) (carried_none x r.quiet)
     carried_from (suc n) = rw (add-suc, carried_from n) (ap (λ l. carried_in s r.drives n ++ l) (r.carries n))
 
   module _ (y : ℕ) (s : Shape) (r : ReadsFrom y s e heard given) where
-    delivered_from : (n : ℕ) → delivered_before e heard given (y + n) ≡ delivered_in s (λ m. heard (y + m)) n
+    pub delivered_from : (n : ℕ) → delivered_before e heard given (y + n) ≡ delivered_in s (λ m. heard (y + m)) n
     unfolding delivered_before delivered_in
     delivered_from zero = rw (add-zero y) (delivered_none y r.quiet)
     delivered_from (suc n) = rw (add-suc, delivered_from n, r.delivered n) refl
@@ -115,8 +115,8 @@ module _ (x d b c : ℕ) (s : Shape) (small : (w : ℕ) → s ≡ shape.Word w �
   lag_most (shape.Unit f) = omega arith
 
   -- in every slot, and nothing before
-  pub delivers : (t : ℕ) → delivered_by t ≡ carried_by (t - (lag s + d))
-  delivers t = go (dec_lt (x + d) t)
+  pub delivers_late : (t : ℕ) → delivered_by t ≡ carried_by (t - (lag s + d))
+  delivers_late t = go (dec_lt (x + d) t)
     where
       go : Dec (x + d < t) → delivered_by t ≡ carried_by (t - (lag s + d))
       go (yes l) =
@@ -161,9 +161,9 @@ module _ (x d b c : ℕ) (s : Shape) (small : (w : ℕ) → s ≡ shape.Word w �
       ∙ sym (ap (λ h. h.standing) (shown_as n))
 
   -- and the signals that the receiver shows are those of the Sd sent
-  pub signals_arrive : (t : ℕ) → signals_of (stands_by t) ≡ (shown_after (λ m. sent_by (x + m)) (t - (x + d))).standing
+  pub signals_arrive_late : (t : ℕ) → signals_of (stands_by t) ≡ (shown_after (λ m. sent_by (x + m)) (t - (x + d))).standing
   unfolding shown_after
-  signals_arrive t = go (dec_lt t (x + d))
+  signals_arrive_late t = go (dec_lt t (x + d))
     where
       go : Dec (t < x + d) → signals_of (stands_by t) ≡ (shown_after (λ m. sent_by (x + m)) (t - (x + d))).standing
       go (yes l) =

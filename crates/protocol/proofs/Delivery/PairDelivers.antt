@@ -46,7 +46,7 @@ use Rattle.protocol.proofs.Chain.BothConclude.{profile_is, open_a, open_o, state
 use Rattle.protocol.proofs.Chain.PairConcludes.{pair_by_roles}
 use Rattle.protocol.proofs.Delivery.MirrorKept.{ArrivesOne}
 use Rattle.protocol.proofs.Delivery.Stream.{goes}
-use Rattle.protocol.proofs.Delivery.Delivers.{SendsFrom, ReadsFrom, delivers, signals_arrive}
+use Rattle.protocol.proofs.Delivery.Delivers.{SendsFrom, ReadsFrom, delivers_late, signals_arrive_late}
 use Rattle.protocol.proofs.Delivery.OpenEnds.{sends_after, reads_after_idle, sends_at_once, reads_after}
 use Rattle.protocol.proofs.Delivery.Fills.{told, carried_from}
 
@@ -103,11 +103,11 @@ module _ (x d b c : ℕ) (s : Shape) (small : (w : ℕ) → s ≡ shape.Word w �
   carries_late : CarriesLate d s x b sender hs gs c receiver hr gr
   carries_late =
       record {
-        units = delivers x d b c s small begun there sender receiver (since b hs) (since c hr) (since b gs) (since c gr) sends reads each_arrives;
+        units = delivers_late x d b c s small begun there sender receiver (since b hs) (since c hr) (since b gs) (since c gr) sends reads each_arrives;
         taken = λ t. (told sender (since b hs) (since b gs) t).offered;
         between = λ t. (told sender (since b hs) (since b gs) t).ones;
         signals =
-            signals_arrive x d b c s small begun there sender receiver (since b hs) (since c hr) (since b gs) (since c gr) sends reads each_arrives;
+            signals_arrive_late x d b c s small begun there sender receiver (since b hs) (since c hr) (since b gs) (since c gr) sends reads each_arrives;
       }
 
 -- Both directions, with the roles named.
