@@ -4,12 +4,6 @@ use Rattle.reading.specs.Made.{reading_made}
 use Rattle.reading.proofs.OtherKinds.{rest_pair}
 use Rattle.reading.proofs.reads_pair.Goals as goal
 
-pub returns-in-Dl : goal.returns-in-Dl
-returns-in-Dl c = simp (c.seeks.ensures, c.pair_begun.ensures, c.in-Dl.is)
-
-pub returns-in-Dh : goal.returns-in-Dh
-returns-in-Dh c = simp (c.seeks-in-Dh.ensures, c.pair_ended.ensures, c.in-Dh.is)
-
 pub returns-in-Sd : goal.returns-in-Sd
 returns-in-Sd c = simp (c.reads_sd.ensures, c.in-Sd.is)
 
