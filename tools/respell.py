@@ -14,7 +14,8 @@ import sys
 
 TOP = sys.argv[1] if len(sys.argv) > 1 else "."
 
-# Names that look like lemmas of this repository and are the kit's; they keep the kit's spelling.
+# Names with a dash that the kit's library has too; they keep it, the four lemmas of this repository among them (count-append, length-numbered,
+# pow-pow, take-replicate).
 KIT = {
     "count-append", "drop-cons", "drop_of_length-le", "get_or-append", "le-ltb", "length-numbered", "lt-ltb", "mod-eq_of_lt", "pow-pow",
     "pow-suc", "take-replicate",
