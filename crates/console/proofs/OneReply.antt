@@ -1,9 +1,13 @@
--- The promise of `tell` admits one reply: read off the promise as the source states it. Assumes nothing.
+-- The promises of `tell` and `is_argument` admit one reply: read off each promise as the source states it. Assumes nothing.
 use mathlib.Core.Path.{◌≡◌}
 use Rattle.ground.proofs.OneReply.{one_reply}
 use Rattle.console.proofs.tell.Reads as tell
+use Rattle.console.proofs.is_argument.Reads as is_argument
 
 -- whatever writer the line is told to
 pub tell_one : (W : _) (laws : _) (g : _) (d : _) (κs : _) (a : _) (r s : _) (x y : _)
     → tell.Post W laws g d κs a r x → tell.Post W laws g d κs a s y → r ≡ s
 tell_one W laws g d κs a r s x y p q = one_reply _ p q
+
+pub is_argument_one : (κs : _) (a : _) (r s : _) (x y : _) → is_argument.Post κs a r x → is_argument.Post κs a s y → r ≡ s
+is_argument_one κs a r s x y p q = one_reply _ p q

@@ -1,11 +1,13 @@
 // What every program does with its input and its output: it reads all of the one, and tells where one of them failed.
 #![tactic(auto)]
 
-ghost use Rattle.std.specs.Prelude.{length, ◌≡◌};
+ghost use Rattle.std.specs.Prelude.{length, ◌≡◌, ◌<◌, ◌^◌, IfOk, IfErr, pos, negsuc};
 ghost use Rattle.text.specs.Text.{text};
 ghost use Rattle.console.specs.Reading.{Within, came_of};
 ghost use Rattle.console.specs.Telling.{told_of};
+ghost use Rattle.console.specs.Arguments.{is_argument};
 
+use std::env::FillError;
 use std::io::{Read, Write};
 use text::{Text, empty, word};
 
@@ -38,11 +40,20 @@ pub fn read_all<R: Read>(from: &mut R, buf: &mut [u8]) -> Input
 fn read_some<R: Read>(from: &mut R, buf: &mut [u8]) -> Input
     ensures { Within (length buf.new) result }
 {
-    let got = match from.read(buf) {
+    let got = answered(from.read(buf));
+    came(got, buf)
+}
+
+// What a read of the library gave, as the system answers it: -1 where it failed, else how many bytes came.
+fn answered(read: std::io::Result<usize>) -> isize
+    requires { IfOk read (λ n. n < 2 ^ 63) }
+    ensures ok { IfOk read (λ n. result ≡ pos n) }
+    ensures failed { IfErr read (λ e. result ≡ negsuc 0) }
+{
+    match read {
         Ok(n) => n as isize,
         Err(_) => -1,
-    };
-    came(got, buf)
+    }
 }
 
 // What a read answered: -1 where it failed, 0 where the input has ended, else how many bytes came.
@@ -53,6 +64,17 @@ fn came(got: isize, buf: &[u8]) -> Input
         return Input::Failed;
     }
     Input::Read(io::count(got, buf))
+}
+
+// Whether what the system answered to the question for an argument tells of one. A long one does not fit, and is one.
+pub fn is_argument(answer: Result<usize, FillError>) -> bool
+    ensures { result ≡ is_argument answer }
+{
+    match answer {
+        Ok(_) => true,
+        Err(FillError::TooLong) => true,
+        Err(FillError::NotPresent) => false,
+    }
 }
 
 // What a program could not do.

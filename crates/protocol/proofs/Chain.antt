@@ -28,7 +28,7 @@ pub mod Collects
 pub mod Settling
 pub mod Concluding
 pub mod Starting
-pub mod Together
 pub mod BothConclude
 pub mod AtOnce
+pub mod Together
 pub mod PairConcludes

@@ -3,13 +3,13 @@
 
 use book::{number, offset, read_book};
 use channel::byte::ChannelByte;
-use console::{Failure, Input, read_all, tell};
+use console::{Failure, Input, is_argument, read_all, tell};
 use endpoint::slot::slot;
 use endpoint::start::start;
 use opened::drive::idle;
 use pair::report::report;
 use protocol::Reply;
-use std::env::{Env, FillError};
+use std::env::Env;
 use std::io::{Error, ErrorKind, Read, Stdout, Write};
 use text::{Text, decimal, empty, hex, word};
 
@@ -298,17 +298,9 @@ fn closed_output(out: &Stdout) -> bool {
     )
 }
 
-// Whether an argument stands behind the program's name.
-fn has_argument(rt: &HostRuntime) -> bool {
-    let mut first = [0u8; 1];
-    match rt.arg(1, &mut first) {
-        Err(FillError::NotPresent) => false,
-        _ => true,
-    }
-}
-
 fn main(rt: HostRuntime) {
-    if has_argument(&rt) {
+    let mut first = [0u8; 1];
+    if is_argument(rt.arg(1, &mut first)) {
         return explain(&rt);
     }
     let out = rt.stdout();

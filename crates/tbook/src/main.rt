@@ -2,8 +2,8 @@
 #![tactic(auto)]
 
 use bookwords::told;
-use console::{Failure, Input, read_all, tell};
-use std::env::{Env, FillError};
+use console::{Failure, Input, is_argument, read_all, tell};
+use std::env::Env;
 use std::io::Write;
 
 // One place more than the longest book: what stands past that changes nothing of what is told.
@@ -37,17 +37,9 @@ fn answer(rt: &HostRuntime, input: &[u8]) {
     }
 }
 
-// Whether an argument stands behind the program's name.
-fn has_argument(rt: &HostRuntime) -> bool {
-    let mut first = [0u8; 1];
-    match rt.arg(1, &mut first) {
-        Err(FillError::NotPresent) => false,
-        _ => true,
-    }
-}
-
 fn main(rt: HostRuntime) {
-    if has_argument(&rt) {
+    let mut first = [0u8; 1];
+    if is_argument(rt.arg(1, &mut first)) {
         return explain(&rt);
     }
     let mut input = [0u8; PLACES];

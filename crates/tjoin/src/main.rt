@@ -1,9 +1,9 @@
 // tjoin: joins an originator's book and an answerer's over a delay, and tells how both ends conclude.
 #![tactic(auto)]
 
-use console::{Failure, Input, read_all, tell};
+use console::{Failure, Input, is_argument, read_all, tell};
 use pair::report::report;
-use std::env::{Env, FillError};
+use std::env::Env;
 use std::io::Write;
 
 // One place more than the longest input, which tells a longer one from it.
@@ -35,17 +35,9 @@ fn answer(rt: &HostRuntime, input: &[u8]) {
     }
 }
 
-// Whether an argument stands behind the program's name.
-fn has_argument(rt: &HostRuntime) -> bool {
-    let mut first = [0u8; 1];
-    match rt.arg(1, &mut first) {
-        Err(FillError::NotPresent) => false,
-        _ => true,
-    }
-}
-
 fn main(rt: HostRuntime) {
-    if has_argument(&rt) {
+    let mut first = [0u8; 1];
+    if is_argument(rt.arg(1, &mut first)) {
         return explain(&rt);
     }
     let mut input = [0u8; PLACES];

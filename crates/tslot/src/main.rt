@@ -3,8 +3,8 @@
 
 ghost use Rattle.std.specs.Prelude.{◌≡◌, length};
 
-use console::{Failure, Input, read_all, tell};
-use std::env::{Env, FillError};
+use console::{Failure, Input, is_argument, read_all, tell};
+use std::env::Env;
 use std::io::Write;
 
 // Told to who calls it with an argument.
@@ -39,17 +39,9 @@ fn answer(rt: &HostRuntime, input: &[u8]) {
     }
 }
 
-// Whether an argument stands behind the program's name.
-fn has_argument(rt: &HostRuntime) -> bool {
-    let mut first = [0u8; 1];
-    match rt.arg(1, &mut first) {
-        Err(FillError::NotPresent) => false,
-        _ => true,
-    }
-}
-
 fn main(rt: HostRuntime) {
-    if has_argument(&rt) {
+    let mut first = [0u8; 1];
+    if is_argument(rt.arg(1, &mut first)) {
         return explain(&rt);
     }
     // one byte longer than the largest script, so that a larger one is told

@@ -1,8 +1,8 @@
 -- What the allowed damage leaves of bytes, as kinds: a byte alone is read as what it is, and a group by its vote. Assumes nothing.
-use mathlib.Core.Path.{◌≡◌, refl, ◌∙◌, subst}
+use mathlib.Core.Path.{◌≡◌, refl, ◌∙◌, subst, sym, ap, fun_ext}
 use mathlib.Core.Bool.{true}
 use Prim.Native.Nat.{ℕ, ◌+◌, ◌-◌, ◌%◌, ◌≤◌, ◌<◌}
-use native.Mathlib.Nat.{add-zero}
+use native.Mathlib.Nat.{add-zero, sub-zero}
 use native.Mathlib.Omega.{arith}
 use lib.Dec.{lit<}
 use Rattle.book.specs.declared.Book.{Book}
@@ -22,7 +22,7 @@ use Rattle.protocol.specs.declared.Drive.{Drive}
 use Rattle.protocol.proofs.Chain.Segments.{Says}
 use Rattle.protocol.proofs.Chain.Link.{Link, GroupHeard}
 use Rattle.protocol.proofs.Chain.Timed.{said_at, end, timed_said}
-use Rattle.protocol.proofs.Chain.OwnSlots.{once_started}
+use Rattle.protocol.proofs.Chain.OwnSlots.{once_started, starting_none}
 
 module _ (heard : ℕ → ℕ) (v x : ℕ) (small : v < 256) (a : GroupArrives v heard x) where
   low : (place : ℕ) → place < 6 → place % 2 ≡ 0 → kind_of (heard (x + place)) ≡ Dl (nibble_in (heard (x + place)))
@@ -73,10 +73,6 @@ module _ (b : Book) (heard : ℕ → ℕ) (given : ℕ → Drive) (kept : (t : �
     (d n : ℕ) (within : n ≤ b.limit) (other : ℕ → ℕ) (a : Arrives d (sent_at (started b) heard given) other) where
   pub link : Link 0 n d (said_at b heard given) (λ t. kind_of (other t))
   link =
-      record {
-        alone = λ t c l h e. b8_ignored (other (t + d)) c (a.alone t c (timed_said b heard given kept t (omega arith) (Alone c) e));
-        group =
-            λ t v l h small e.
-            group_heard other v (t + d) small
-            (a.groups t v (λ j hj. timed_said b heard given kept (t + j) (omega arith) (Part j v) (e j hj)));
-      }
+      subst (λ said. Link 0 n d said (λ t. kind_of (other t))) (fun_ext (λ t. ap (said_at b heard given) (sub-zero t)))
+      (link_late 0 b heard given kept d n (omega (arith, within)) other
+      (subst (λ sent. Arrives d sent other) (sym (starting_none (Alone sgidle) (sent_at (started b) heard given))) a))

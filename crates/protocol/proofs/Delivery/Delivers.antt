@@ -46,25 +46,25 @@ pub record ReadsFrom (y : ℕ) (s : Shape) (e : Endpoint) (heard : ℕ → ℕ) 
   pub shows : (n : ℕ) → signals_of (stands_at e heard given (y + n)) ≡ (ins s (λ m. heard (y + m)) fresh_line.inbound n).standing
 
 module _ (e : Endpoint) (heard : ℕ → ℕ) (given : ℕ → Drive) where
-  pub carried_none : (x : ℕ) → ((t : ℕ) → t < x → (taken_at e heard given t ≡ false) × (fill (sent_at e heard given t) ≡ [])) → carried_before e heard given x ≡ []
+  carried_none : (x : ℕ) → ((t : ℕ) → t < x → (taken_at e heard given t ≡ false) × (fill (sent_at e heard given t) ≡ [])) → carried_before e heard given x ≡ []
   unfolding carried_before
   carried_none zero q = refl
   carried_none (suc x) q =
       rw (carried_none x (λ t l. q t (omega arith)), (q x (omega arith)).0, (q x (omega arith)).1) refl
 
-  pub delivered_none : (y : ℕ) → ((t : ℕ) → t < y → delivered_at e heard given t ≡ delivered.Nothing) → delivered_before e heard given y ≡ []
+  delivered_none : (y : ℕ) → ((t : ℕ) → t < y → delivered_at e heard given t ≡ delivered.Nothing) → delivered_before e heard given y ≡ []
   unfolding delivered_before
   delivered_none zero q = refl
   delivered_none (suc y) q = rw (delivered_none y (λ t l. q t (omega arith)), q y (omega arith)) refl
 
   module _ (x : ℕ) (s : Shape) (r : SendsFrom x s e heard given) where
-    pub carried_from : (n : ℕ) → carried_before e heard given (x + n) ≡ carried_in s r.drives n
+    carried_from : (n : ℕ) → carried_before e heard given (x + n) ≡ carried_in s r.drives n
     unfolding carried_before carried_in
     carried_from zero = rw (add-zero x) (carried_none x r.quiet)
     carried_from (suc n) = rw (add-suc, carried_from n) (ap (λ l. carried_in s r.drives n ++ l) (r.carries n))
 
   module _ (y : ℕ) (s : Shape) (r : ReadsFrom y s e heard given) where
-    pub delivered_from : (n : ℕ) → delivered_before e heard given (y + n) ≡ delivered_in s (λ m. heard (y + m)) n
+    delivered_from : (n : ℕ) → delivered_before e heard given (y + n) ≡ delivered_in s (λ m. heard (y + m)) n
     unfolding delivered_before delivered_in
     delivered_from zero = rw (add-zero y) (delivered_none y r.quiet)
     delivered_from (suc n) = rw (add-suc, delivered_from n, r.delivered n) refl

@@ -1,4 +1,4 @@
--- `answering_in` is `answering_in`. Assumes nothing.
+-- The function `answering_in` gives what the definition of that name says. Assumes nothing.
 use Rattle.protocol.specs.Ranges.{answering_in}
 use Rattle.protocol.specs.Lengths.{identifier_run}
 use Rattle.ranges.proofs.answering_in.Goals as goal

@@ -1,4 +1,4 @@
--- `awaited_in` is `awaited_in`. Assumes nothing.
+-- The function `awaited_in` gives what the definition of that name says. Assumes nothing.
 use Rattle.protocol.specs.Ranges.{awaited_in}
 use Rattle.ranges.proofs.awaited_in.Goals as goal
 

@@ -1,4 +1,4 @@
--- `claim_in` is `claim_in`. Assumes nothing.
+-- The function `claim_in` gives what the definition of that name says. Assumes nothing.
 use Rattle.ranges.proofs.claim_in.Goals as goal
 
 pub returns-in-Second : goal.returns-in-Second

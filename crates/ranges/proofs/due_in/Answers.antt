@@ -1,4 +1,4 @@
--- `due_in` is `due_in`. Assumes nothing.
+-- The function `due_in` gives what the definition of that name says. Assumes nothing.
 use Rattle.ranges.proofs.due_in.Goals as goal
 
 pub returns-in-Holds : goal.returns-in-Holds

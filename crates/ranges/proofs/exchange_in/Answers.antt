@@ -1,4 +1,4 @@
--- `exchange_in` is `exchange_in`. Assumes nothing.
+-- The function `exchange_in` gives what the definition of that name says. Assumes nothing.
 use Rattle.ranges.proofs.exchange_in.Goals as goal
 
 pub returns : goal.returns

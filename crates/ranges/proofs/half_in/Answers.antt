@@ -1,4 +1,4 @@
--- `half_in` is `half_in`. Assumes nothing.
+-- The function `half_in` gives what the definition of that name says. Assumes nothing.
 use Rattle.ranges.proofs.half_in.Goals as goal
 
 pub returns-in-Holds : goal.returns-in-Holds

@@ -1,4 +1,4 @@
--- `inbound_in` is `inbound_in`. Assumes nothing.
+-- The function `inbound_in` gives what the definition of that name says. Assumes nothing.
 use Rattle.protocol.specs.Ranges.{inbound_in}
 use Rattle.ranges.proofs.inbound_in.Goals as goal
 

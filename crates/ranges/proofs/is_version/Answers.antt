@@ -1,4 +1,4 @@
--- `is_version` is `is_version`. Assumes nothing.
+-- The function `is_version` gives what the definition of that name says. Assumes nothing.
 use Rattle.protocol.specs.Ranges.{is_version}
 use Rattle.ranges.proofs.is_version.Goals as goal
 

@@ -1,4 +1,4 @@
--- `may_lack` is `may_lack`. Assumes nothing.
+-- The function `may_lack` gives what the definition of that name says. Assumes nothing.
 use Rattle.ranges.proofs.may_lack.Goals as goal
 
 pub returns-in-Hail : goal.returns-in-Hail

@@ -1,4 +1,4 @@
--- `nibbles_in` is `nibbles_in`. Assumes nothing.
+-- The function `nibbles_in` gives what the definition of that name says. Assumes nothing.
 use Rattle.protocol.specs.Ranges.{nibbles_in}
 use Rattle.ranges.proofs.nibbles_in.Goals as goal
 

@@ -1,4 +1,4 @@
--- `open_in` is `open_in`. Assumes nothing.
+-- The function `open_in` gives what the definition of that name says. Assumes nothing.
 use Rattle.ranges.proofs.open_in.Goals as goal
 
 pub returns : goal.returns

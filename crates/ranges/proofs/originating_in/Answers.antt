@@ -1,4 +1,4 @@
--- `originating_in` is `originating_in`. Assumes nothing.
+-- The function `originating_in` gives what the definition of that name says. Assumes nothing.
 use Rattle.protocol.specs.Ranges.{originating_in}
 use Rattle.protocol.specs.Lengths.{identifier_run}
 use Rattle.ranges.proofs.originating_in.Goals as goal

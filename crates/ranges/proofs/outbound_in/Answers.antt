@@ -1,4 +1,4 @@
--- `outbound_in` is `outbound_in`. Assumes nothing.
+-- The function `outbound_in` gives what the definition of that name says. Assumes nothing.
 use Rattle.protocol.specs.Ranges.{outbound_in}
 use Rattle.ranges.proofs.outbound_in.Goals as goal
 

@@ -1,4 +1,4 @@
--- `phase_in` is `phase_in`. Assumes nothing.
+-- The function `phase_in` gives what the definition of that name says. Assumes nothing.
 use Rattle.protocol.specs.Ranges.{phase_in}
 use Rattle.ranges.proofs.phase_in.Goals as goal
 

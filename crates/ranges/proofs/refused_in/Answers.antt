@@ -1,4 +1,4 @@
--- `refused_in` is `refused_in`. Assumes nothing.
+-- The function `refused_in` gives what the definition of that name says. Assumes nothing.
 use Rattle.protocol.specs.Ranges.{refused_in}
 use Rattle.ranges.proofs.refused_in.Goals as goal
 

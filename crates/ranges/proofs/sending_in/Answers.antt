@@ -1,4 +1,4 @@
--- `sending_in` is `sending_in`. Assumes nothing.
+-- The function `sending_in` gives what the definition of that name says. Assumes nothing.
 use mathlib.Core.Path.{sym, ◌∙◌}
 use Rattle.ranges.proofs.sending_in.Goals as goal
 

@@ -1,4 +1,4 @@
--- `values_in` is `values_in`. Assumes nothing.
+-- The function `values_in` gives what the definition of that name says. Assumes nothing.
 use Rattle.protocol.specs.Ranges.{values_in}
 use Rattle.ranges.proofs.values_in.Goals as goal
 

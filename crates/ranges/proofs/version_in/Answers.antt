@@ -1,4 +1,4 @@
--- `version_in` is `version_in`. Assumes nothing.
+-- The function `version_in` gives what the definition of that name says. Assumes nothing.
 use mathlib.Core.Path.{sym, ◌∙◌}
 use Rattle.protocol.specs.Ranges.{version_in}
 use Rattle.ranges.proofs.version_in.Goals as goal

@@ -1,4 +1,4 @@
--- `agreed` is protocol's `agreed`. Assumes nothing.
+-- The function `agreed` gives what protocol's definition of that name says. Assumes nothing.
 use Rattle.reading.proofs.agreed.Goals as goal
 
 pub returns-then-last-now : goal.returns-then-last-now

@@ -1,4 +1,4 @@
--- `agreed_signals` is `agreed_signals`. Assumes nothing.
+-- The function `agreed_signals` gives what the definition of that name says. Assumes nothing.
 use Rattle.reading.proofs.Agreeing.{signals_agree}
 use Rattle.reading.proofs.agreed_signals.Goals as goal
 

@@ -1,4 +1,4 @@
--- `reading` is protocol's `reading`, and delivers the unit that document 01 says. Assumes nothing.
+-- The function `reading` gives what protocol's definition of that name says, and delivers the unit that document 01 says. Assumes nothing.
 use Rattle.protocol.specs.Opened.{reading}
 use Rattle.reading.proofs.InNumbers.{replies}
 use Rattle.reading.proofs.reading.Goals as goal

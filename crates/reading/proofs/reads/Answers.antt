@@ -1,4 +1,4 @@
--- `reads` is `reads`. Assumes nothing.
+-- The function `reads` gives what the definition of that name says. Assumes nothing.
 use Rattle.reading.proofs.reads.Goals as goal
 
 pub returns : goal.returns

@@ -1,4 +1,4 @@
--- `reads_form` is `reads_form`. Assumes nothing.
+-- The function `reads_form` gives what the definition of that name says. Assumes nothing.
 use mathlib.Core.Path.{ap, sym, ◌∙◌}
 use Rattle.reading.specs.Made.{reading_made}
 use Rattle.reading.proofs.PairForms.{as_stream, as_six}

@@ -1,4 +1,4 @@
--- `reads_idle` is `reads_idle`. Assumes nothing.
+-- The function `reads_idle` gives what the definition of that name says. Assumes nothing.
 use mathlib.Core.Path.{ap, ◌∙◌}
 use Rattle.reading.specs.Made.{reading_made}
 use Rattle.reading.proofs.OtherKinds.{rest_idle}

@@ -1,4 +1,4 @@
--- `reads_sd` is `reads_sd`. Assumes nothing.
+-- The function `reads_sd` gives what the definition of that name says. Assumes nothing.
 use Rattle.reading.proofs.reads_sd.Goals as goal
 
 pub returns : goal.returns

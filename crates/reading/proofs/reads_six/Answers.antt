@@ -1,4 +1,4 @@
--- `reads_six` is `reads_six`. Assumes nothing.
+-- The function `reads_six` gives what the definition of that name says. Assumes nothing.
 use mathlib.Core.Path.{sym, ◌∙◌}
 use Rattle.protocol.specs.Opened.{reads_six}
 use Rattle.reading.proofs.reads_six.Goals as goal

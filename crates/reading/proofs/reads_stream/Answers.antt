@@ -1,4 +1,4 @@
--- `reads_stream` is `reads_stream`. Assumes nothing.
+-- The function `reads_stream` gives what the definition of that name says. Assumes nothing.
 use Rattle.reading.proofs.Streams.{streams}
 use Rattle.reading.proofs.reads_stream.Goals as goal
 

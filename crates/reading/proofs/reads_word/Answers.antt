@@ -1,4 +1,4 @@
--- `reads_word` is `reads_word`. Assumes nothing.
+-- The function `reads_word` gives what the definition of that name says. Assumes nothing.
 use mathlib.Core.Path.{ap, ◌∙◌}
 use Rattle.protocol.specs.Opened.{reads_word}
 use Rattle.reading.specs.Made.{reading_made}

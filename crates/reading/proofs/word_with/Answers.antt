@@ -1,4 +1,4 @@
--- `word_with` is `word_with`. Assumes nothing.
+-- The function `word_with` gives what the definition of that name says. Assumes nothing.
 use Rattle.reading.proofs.word_with.Goals as goal
 
 pub returns-in-Holds : goal.returns-in-Holds

@@ -1,4 +1,4 @@
--- `bk_sent` is `bk_sent`. Assumes nothing.
+-- The function `bk_sent` gives what the definition of that name says. Assumes nothing.
 use Rattle.writing.proofs.bk_sent.Goals as goal
 
 pub returns : goal.returns

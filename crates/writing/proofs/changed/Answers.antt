@@ -1,4 +1,4 @@
--- `changed` is `changed`. Assumes nothing.
+-- The function `changed` gives what the definition of that name says. Assumes nothing.
 use Rattle.writing.proofs.changed.Goals as goal
 
 pub returns : goal.returns

@@ -1,4 +1,4 @@
--- `writes_claim` is `writes_claim`. Assumes nothing.
+-- The function `writes_claim` gives what the definition of that name says. Assumes nothing.
 use Rattle.writing.proofs.writes_claim.Goals as goal
 
 pub returns-in-Second : goal.returns-in-Second

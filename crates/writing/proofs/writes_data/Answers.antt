@@ -1,4 +1,4 @@
--- `writes_data` is `writes_data`. Assumes nothing.
+-- The function `writes_data` gives what the definition of that name says. Assumes nothing.
 use Rattle.protocol.specs.Opened.{writes_data}
 use Rattle.writing.proofs.writes_data.Goals as goal
 

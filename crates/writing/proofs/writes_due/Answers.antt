@@ -1,4 +1,4 @@
--- `writes_due` is `writes_due`. Assumes nothing.
+-- The function `writes_due` gives what the definition of that name says. Assumes nothing.
 use Rattle.protocol.specs.Sent.{byte_sent}
 use Rattle.writing.proofs.writes_due.Goals as goal
 

@@ -1,4 +1,4 @@
--- `writes_offer` is `writes_offer` of what is offered. Assumes nothing.
+-- The function `writes_offer` gives what the definition of that name says of what is offered. Assumes nothing.
 use Rattle.writing.proofs.writes_offer.Goals as goal
 
 pub returns-in-Word : goal.returns-in-Word

@@ -1,4 +1,4 @@
--- `writes_sd` is `writes_sd`. Assumes nothing.
+-- The function `writes_sd` gives what the definition of that name says. Assumes nothing.
 use Rattle.protocol.specs.Sent.{byte_sent}
 use Rattle.writing.proofs.writes_sd.Goals as goal
 

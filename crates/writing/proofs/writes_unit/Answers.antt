@@ -1,4 +1,4 @@
--- `writes_unit` is `writes_unit`. Assumes nothing.
+-- The function `writes_unit` gives what the definition of that name says. Assumes nothing.
 use Rattle.protocol.specs.Sent.{byte_sent}
 use Rattle.writing.proofs.writes_unit.Goals as goal
 

@@ -1,4 +1,4 @@
--- `writes_word` is `writes_word`. Assumes nothing.
+-- The function `writes_word` gives what the definition of that name says. Assumes nothing.
 use Rattle.protocol.specs.Sent.{byte_sent}
 use Rattle.writing.proofs.writes_word.Goals as goal
 

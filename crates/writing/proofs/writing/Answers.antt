@@ -1,4 +1,4 @@
--- `writing` is protocol's `writing`. Assumes nothing.
+-- The function `writing` gives what protocol's definition of that name says. Assumes nothing.
 use mathlib.Core.Path.{sym}
 use borrow.Author.Tests.{lt-ltb, le-ltb}
 use Rattle.protocol.specs.Opened.{writing, writes_opening}

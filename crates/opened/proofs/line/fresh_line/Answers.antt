@@ -1,4 +1,4 @@
--- `fresh_line` is `fresh_line`. Assumes nothing.
+-- The function `fresh_line` gives what the definition of that name says. Assumes nothing.
 use Rattle.protocol.specs.Opened.{fresh_line}
 use Rattle.opened.proofs.line.fresh_line.Goals as goal
 

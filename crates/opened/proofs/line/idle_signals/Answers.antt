@@ -1,4 +1,4 @@
--- `idle_signals` is `idle_signals`. Assumes nothing.
+-- The function `idle_signals` gives what the definition of that name says. Assumes nothing.
 use Rattle.opened.proofs.line.idle_signals.Goals as goal
 
 pub returns : goal.returns

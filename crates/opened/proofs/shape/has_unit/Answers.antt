@@ -1,4 +1,4 @@
--- `has_unit` is `has_unit`. Assumes nothing.
+-- The function `has_unit` gives what the definition of that name says. Assumes nothing.
 use Rattle.protocol.specs.Opened.{has_unit}
 use Rattle.opened.proofs.shape.has_unit.Goals as goal
 

@@ -1,4 +1,4 @@
--- `shape_of` is `shape_of`. Assumes nothing.
+-- The function `shape_of` gives what the definition of that name says. Assumes nothing.
 use borrow.Author.Tests.{ne_eqb}
 use Rattle.protocol.specs.Opened.{shape_of}
 use Rattle.opened.proofs.shape.shape_of.Goals as goal
