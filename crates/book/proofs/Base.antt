@@ -8,14 +8,15 @@ use mathlib.Core.List.{List, [], ◌∷◌, ◌++◌}
 use lib.ListN.{length, take}
 use lib.Dec.{eqb}
 use native.Mathlib.Omega.{arith}
-use borrow.Author.Tests.{eqb-true, eqb-false}
+use borrow.Author.Tests.{eqb-true, eqb-false, ne_eqb}
+use Rattle.std.specs.Prelude.{Ok, Err, is_ok}
 use Rattle.book.specs.declared.Entry.{Entry}
 use Rattle.book.specs.declared.Book.{Book}
-use Rattle.book.specs.declared.Fault.{Fault}
+use Rattle.book.specs.declared.Refusal.TheVariants.{Form, BarredForm, SameParameters, WordLength}
 use Rattle.book.specs.Book.{form_in, width_in, entry_start, version_of}
-use Rattle.book.specs.Refusals.{fault, nothing_wrong, or_else, is_mask, is_form, is_width, is_barred, seen_in, entry_fault, each_fault, values_fault, entries_fault}
+use Rattle.book.specs.Refusals.{refusal_number, Verdict, fault, nothing_wrong, or_else, number_of, is_mask, is_form, is_width, is_barred, seen_in, entry_fault, each_fault, values_fault, entries_fault}
 use Rattle.book.specs.Kept.{is_padded, book_ok}
-use Rattle.book.proofs.NothingWrong.{valued}
+use Rattle.book.proofs.NothingWrong.{numbered, accepted, valued}
 
 -- A number as document 01 told it, and its checks of the entries.
 
@@ -54,16 +55,17 @@ zero_01 number = by (eqb number 17) refl
     by true e = rw (eqb-true number 17 e)
     by false e = refl
 
-else_01 : (a b : Fault) → in01 (or_else a b).number ≡ cond (eqb (in01 a.number) 0) (in01 b.number) (in01 a.number)
-else_01 a b = by (eqb a.number 0) (zero_01 a.number)
-  where
-    by : (t : Bool) → t ≡ eqb (in01 a.number) 0
-        → in01 (cond t b a).number ≡ cond (eqb (in01 a.number) 0) (in01 b.number) (in01 a.number)
-    by true e = rw (← e)
-    by false e = rw (← e)
+-- a verdict with the number 0 is no refusal
+ok_zero : (v : Verdict) → is_ok v ≡ eqb (number_of v) 0
+ok_zero (Ok _) = refl
+ok_zero (Err f) = let l = numbered f.refusal in sym (ne_eqb (refusal_number f.refusal) 0 (λ e. absurd (omega arith)))
+
+else_01 : (a b : Verdict) → in01 (number_of (or_else a b)) ≡ cond (eqb (in01 (number_of a)) 0) (in01 (number_of b)) (in01 (number_of a))
+else_01 (Ok _) b = refl
+else_01 (Err f) b = rw (← zero_01 (refusal_number f.refusal), ← ok_zero (Err f))
 
 checks_01 : (f w g b : Bool) (o p q : ℕ)
-    → in01 (cond (not f) (fault 8 o) (cond (not w) (fault 17 p) (cond g (fault 9 o) (cond b (fault 10 q) nothing_wrong)))).number
+    → in01 (number_of (cond (not f) (fault Form o) (cond (not w) (fault WordLength p) (cond g (fault BarredForm o) (cond b (fault SameParameters q) nothing_wrong)))))
     ≡ cond (not (f && w)) 8 (cond g 9 (cond b 10 0))
 checks_01 false w g b o p q = refl
 checks_01 true false g b o p q = refl
@@ -86,13 +88,13 @@ barred_as_01 form mask m = masks (λ mask. is_barred mask form ≡ is_barred01 (
 
 module _ (mask : ℕ) (m : is_mask mask ≡ true) where
   entry_as_01 : (earlier : List Entry) (start : ℕ) (e : Entry)
-      → in01 (entry_fault mask earlier start e).number ≡ entry_no01 (mask01 mask) earlier e
+      → in01 (number_of (entry_fault mask earlier start e)) ≡ entry_no01 (mask01 mask) earlier e
   unfolding entry_fault entry_no01
   entry_as_01 earlier start e =
       rw (← barred_as_01 e.form mask m)
       (checks_01 (is_form e.form) (is_width e.form e.w) (is_barred mask e.form) (seen_in earlier e) (start + form_in) (start + width_in) start)
 
-  each_as_01 : (version : ℕ) (earlier es : List Entry) → in01 (each_fault version mask earlier es).number ≡ each_no01 (mask01 mask) earlier es
+  each_as_01 : (version : ℕ) (earlier es : List Entry) → in01 (number_of (each_fault version mask earlier es)) ≡ each_no01 (mask01 mask) earlier es
   unfolding each_fault each_no01
   each_as_01 version earlier [] = refl
   each_as_01 version earlier (e ∷ es) =
@@ -101,27 +103,29 @@ module _ (mask : ℕ) (m : is_mask mask ≡ true) where
       ∙ rw (entry_as_01 earlier start e, each_as_01 version (earlier ++ (e ∷ [])) es)
 
 pub entries_as_01 : (version : ℕ) (b : Book) → is_mask b.mask ≡ true
-    → in01 (entries_fault version b).number ≡ each_no01 (mask01 b.mask) [] (take b.n b.entries)
+    → in01 (number_of (entries_fault version b)) ≡ each_no01 (mask01 b.mask) [] (take b.n b.entries)
 unfolding entries_fault
 entries_as_01 version b m = each_as_01 b.mask m version [] (take b.n b.entries)
 
 pub kept_as_01 : (b : Book)
     → book_ok b
-    ≡ (eqb (values_fault b).number 0 && eqb (each_no01 (mask01 b.mask) [] (take b.n b.entries)) 0 && is_padded b.entries b.n)
+    ≡ (eqb (number_of (values_fault b)) 0 && eqb (each_no01 (mask01 b.mask) [] (take b.n b.entries)) 0 && is_padded b.entries b.n)
 unfolding book_ok
-kept_as_01 b = by (eqb (values_fault b).number 0) refl
+kept_as_01 b =
+    rw (ok_zero (values_fault b), ok_zero (entries_fault (version_of b) b))
+    (by (eqb (number_of (values_fault b)) 0) refl)
   where
     now : ℕ
-    now = (entries_fault (version_of b) b).number
+    now = number_of (entries_fault (version_of b) b)
 
     then : ℕ
     then = each_no01 (mask01 b.mask) [] (take b.n b.entries)
 
-    by : (v : Bool) → eqb (values_fault b).number 0 ≡ v
+    by : (v : Bool) → eqb (number_of (values_fault b)) 0 ≡ v
         → (v && eqb now 0 && is_padded b.entries b.n) ≡ (v && eqb then 0 && is_padded b.entries b.n)
     by false e = refl
     by true e =
-        let same = zero_01 now ∙ ap (λ (k : ℕ). eqb k 0) (entries_as_01 (version_of b) b (valued b (eqb-true _ 0 e)).mask) in
+        let same = zero_01 now ∙ ap (λ (k : ℕ). eqb k 0) (entries_as_01 (version_of b) b (valued b (accepted (values_fault b) (eqb-true _ 0 e))).mask) in
         rw same
 
 -- What document 01 accepted is accepted still.

@@ -10,11 +10,13 @@ use lib.ListN.{length, get_or, take, drop}
 use lib.Seq.{length-take-le, get_or-take, take-take}
 use lib.Dec.{eqb, ltb, leb}
 use borrow.Author.Tests.{eqb-true, ne_eqb, leb-true, not-false, eqb-false}
+use Rattle.std.specs.Prelude.{Ok, Err, is_ok}
 use Rattle.ground.proofs.Test.{both_left, both_right}
 use Rattle.book.specs.declared.Entry.{Entry}
 use Rattle.book.specs.declared.Book.{Book}
 use Rattle.book.specs.Book.{most_entries, entry_start, no_entry, version_of, params_of, same_params}
-use Rattle.book.specs.Refusals.{least_limit, is_mask, wrong_count, is_form, is_width, is_barred, seen_in, entry_fault, each_fault, values_fault, entries_fault}
+use Rattle.book.specs.declared.Refusal.TheVariants.{Form, WordLength, BarredForm, SameParameters}
+use Rattle.book.specs.Refusals.{Verdict, nothing_wrong, least_limit, is_mask, wrong_count, is_form, is_width, is_barred, seen_in, entry_fault, each_fault, values_fault, entries_fault}
 use Rattle.book.specs.Kept.{all_none, is_padded, book_ok}
 use Rattle.book.proofs.NothingWrong.{neither, cond_fine, else_fine, valued}
 use Rattle.book.proofs.Params.{equal_same}
@@ -38,8 +40,8 @@ pub record KeptBook (b : Book) : Type 0 where
   pub entry : (i : ℕ) → i < b.n → KeptEntry b.mask (get_or b.entries i no_entry)
   pub differ : (i j : ℕ) → i < j → j < b.n → params_of (get_or b.entries i no_entry) ≡ params_of (get_or b.entries j no_entry) → ⊥
 
-each_at : (version mask : ℕ) (earlier es : List Entry) → (each_fault version mask earlier es).number ≡ 0 → (i : ℕ) → i < length es
-    → (entry_fault mask (earlier ++ take i es) (entry_start version (length (earlier ++ take i es))) (get_or es i no_entry)).number ≡ 0
+each_at : (version mask : ℕ) (earlier es : List Entry) → each_fault version mask earlier es ≡ nothing_wrong → (i : ℕ) → i < length es
+    → entry_fault mask (earlier ++ take i es) (entry_start version (length (earlier ++ take i es))) (get_or es i no_entry) ≡ nothing_wrong
 unfolding each_fault
 each_at version mask earlier [] h i l = absurd (not-suc-le-zero l)
 each_at version mask earlier (e ∷ es) h zero l =
@@ -77,7 +79,7 @@ mask_bounds m h =
     (λ p. omega (arith, eqb-true m 3 p))
     (or_true (eqb m 1 || eqb m 2) (eqb m 3) h)
 
-module _ (mask : ℕ) (earlier : List Entry) (start : ℕ) (e : Entry) (h : (entry_fault mask earlier start e).number ≡ 0) where
+module _ (mask : ℕ) (earlier : List Entry) (start : ℕ) (e : Entry) (h : entry_fault mask earlier start e ≡ nothing_wrong) where
   pub record EntryFacts : Type 0 where
     pub form : is_form e.form ≡ true
     pub width : is_width e.form e.w ≡ true
@@ -87,10 +89,10 @@ module _ (mask : ℕ) (earlier : List Entry) (start : ℕ) (e : Entry) (h : (ent
   entry_facts : EntryFacts
   unfolding entry_fault
   entry_facts =
-      let x = cond_fine (not (is_form e.form)) 7 _ _ h in
-      let y = cond_fine (not (is_width e.form e.w)) 16 _ _ x.1 in
-      let z = cond_fine (is_barred mask e.form) 8 _ _ y.1 in
-      let v = cond_fine (seen_in earlier e) 9 _ _ z.1 in
+      let x = cond_fine (not (is_form e.form)) Form _ _ h in
+      let y = cond_fine (not (is_width e.form e.w)) WordLength _ _ x.1 in
+      let z = cond_fine (is_barred mask e.form) BarredForm _ _ y.1 in
+      let v = cond_fine (seen_in earlier e) SameParameters _ _ z.1 in
       record { form = not-false _ x.0; width = not-false _ y.0; allowed = z.0; new = v.0 }
 
   kept_entry : KeptEntry mask e
@@ -106,23 +108,27 @@ module _ (mask : ℕ) (earlier : List Entry) (start : ℕ) (e : Entry) (h : (ent
         form_8 = λ (q : e.form ≡ 8). eqb-false mask 1 (rw q at entry_facts.allowed);
       }
 
+not_refused : (v : Verdict) → is_ok v ≡ true → v ≡ nothing_wrong
+not_refused (Ok _) h = refl
+not_refused (Err f) h = absurd (cc)
+
 -- what the check tests
 pub record Passed (b : Book) : Type 0 where
-  pub values : (values_fault b).number ≡ 0
-  pub entries : (entries_fault (version_of b) b).number ≡ 0
+  pub values : values_fault b ≡ nothing_wrong
+  pub entries : entries_fault (version_of b) b ≡ nothing_wrong
   pub room : length b.entries ≡ most_entries
   pub rest : all_none (drop b.n b.entries) ≡ true
 
 pub passed : (b : Book) → book_ok b ≡ true → Passed b
 unfolding book_ok is_padded
 passed b h =
-    let values : Bool = eqb (values_fault b).number 0 in
-    let entries : Bool = eqb (entries_fault (version_of b) b).number 0 in
+    let values : Bool = is_ok (values_fault b) in
+    let entries : Bool = is_ok (entries_fault (version_of b) b) in
     let x = both_left (values && entries) _ h in
     let y = both_right (values && entries) _ h in
     record {
-      values = eqb-true _ _ (both_left values entries x);
-      entries = eqb-true _ _ (both_right values entries x);
+      values = not_refused _ (both_left values entries x);
+      entries = not_refused _ (both_right values entries x);
       room = eqb-true _ _ (both_left (eqb (length b.entries) most_entries) _ y);
       rest = both_right (eqb (length b.entries) most_entries) _ y;
     }
@@ -139,7 +145,7 @@ module _ (b : Book) (p : Passed b) where
 
   -- entry i is fine against the entries before it
   fine_at : (i : ℕ) → i < b.n
-      → (entry_fault b.mask (take i b.entries) (entry_start (version_of b) (length (take i b.entries))) (get_or b.entries i no_entry)).number ≡ 0
+      → entry_fault b.mask (take i b.entries) (entry_start (version_of b) (length (take i b.entries))) (get_or b.entries i no_entry) ≡ nothing_wrong
   unfolding entries_fault
   fine_at i l =
       let r = p.room in

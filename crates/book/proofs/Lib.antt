@@ -5,7 +5,6 @@ mod NothingWrong
 mod Versions
 pub mod Reply
 mod Lookup
-mod KeptCheck
 pub mod Params
 pub mod Kept
 mod Written

@@ -1,5 +1,5 @@
 -- The array of entries, loaded one by one. Assumes nothing.
-use Prim.Native.Nat.{ℕ, zero, suc, ◌+◌, ◌-◌, ◌<◌, ◌≤◌}
+use Prim.Native.Nat.{ℕ, zero, suc, ◌-◌, ◌<◌}
 use mathlib.Core.Path.{◌≡◌, refl, sym, ap, ◌∙◌}
 use mathlib.Core.List.{List, [], ◌∷◌, ◌++◌, append_assoc}
 use native.Mathlib.Omega.{arith}
@@ -14,7 +14,7 @@ unfolding entries_of
 entries_length version s zero = refl
 entries_length version s (suc n) = rw (length-append, entries_length version s n) (add-one n)
 
-kept_suc : (version : ℕ) (s : List ℕ) (e : Entry) (i : ℕ) → i < most_entries → e ≡ entry_at s (entry_start version i) → set (kept_entries version s i) i e ≡ kept_entries version s (suc i)
+pub kept_suc : (version : ℕ) (s : List ℕ) (e : Entry) (i : ℕ) → i < most_entries → e ≡ entry_at s (entry_start version i) → set (kept_entries version s i) i e ≡ kept_entries version s (suc i)
 unfolding kept_entries entries_of
 kept_suc version s e i lt k =
     let d : most_entries - i ≡ suc (most_entries - suc i) = omega arith in
@@ -22,11 +22,3 @@ kept_suc version s e i lt k =
     ∙ set_at (entries_of version s i) no_entry (replicate (most_entries - suc i) no_entry) e i (entries_length version s i)
     ∙ ap (λ (x : Entry). entries_of version s i ++ x ∷ replicate (most_entries - suc i) no_entry) k
     ∙ sym (append_assoc (entries_of version s i) (entry_at s (entry_start version i) ∷ []) (replicate (most_entries - suc i) no_entry))
-
-pub kept_next : (version : ℕ) (s : List ℕ) (es : List Entry) (e : Entry) (n i k : ℕ) → i < n → n ≤ most_entries → es ≡ kept_entries version s i → k ≡ entry_start version i → e ≡ entry_at s k → set es i e ≡ kept_entries version s (i + 1)
-kept_next version s es e n i k lt le h ek ee =
-    let x : e ≡ entry_at s (entry_start version i) = ee ∙ ap (entry_at s) ek in
-    ap (λ (l : List Entry). set l i e) h ∙ kept_suc version s e i (omega arith) x ∙ ap (kept_entries version s) (sym (add-one i))
-
-pub kept_end : (version : ℕ) (s : List ℕ) (es : List Entry) (n i : ℕ) → n ≤ i → i ≤ n → es ≡ kept_entries version s i → es ≡ kept_entries version s n
-kept_end version s es n i ge le h = let e : i ≡ n = omega arith in rw (h, e)

@@ -8,14 +8,14 @@ use native.Mathlib.Nat.{le_trans, add-zero, add-suc, suc-add, zero-add}
 use lib.ListN.{length, get_or, take, length-append}
 use lib.Seq.{get_or-take, append_snoc}
 use lib.Dec.{ltb, eqb}
-use borrow.Author.Tests.{eqb-true, ltb-true, ltb-false}
+use borrow.Author.Tests.{ltb-true, ltb-false}
+use Rattle.std.specs.Prelude.{Ok, Err}
 use Rattle.ground.proofs.Test.{by_test, either_way}
 use Rattle.book.specs.declared.Entry.{Entry}
 use Rattle.book.specs.declared.Book.{Book}
-use Rattle.book.specs.declared.Fault.{Fault}
 use Rattle.book.specs.Book.{header_length, book_version, answering, least_header, most_entries, version_at, role_at, mask_at, limit_at, count_at}
 use Rattle.book.specs.Book.{entry_length, form_in, width_in, entry_start, version_in, entry_at, entries_of, kept_entries, book_of}
-use Rattle.book.specs.Refusals.{nothing_wrong, or_else, least_limit, is_mark, start_fault, is_mask, wrong_count, values_fault, length_fault}
+use Rattle.book.specs.Refusals.{Verdict, nothing_wrong, or_else, number_of, offset_of, least_limit, is_mark, start_fault, is_mask, wrong_count, values_fault, length_fault}
 use Rattle.book.specs.Refusals.{is_form, is_width, is_barred, seen_in, entry_fault, each_fault, entries_fault, book_fault, book_no, book_offset}
 use Rattle.book.specs.Offending.{field_length, fault_end, longest_book}
 use Rattle.book.proofs.Loading.{entries_length}
@@ -24,8 +24,9 @@ use Rattle.book.proofs.Versions.{least_header_lem}
 use Rattle.book.proofs.RoundTrip.{kept_first}
 
 -- what holds of a stage, and of what follows where the stage finds nothing wrong, holds of the two
-else_by : (P : Fault → Type 0) (a b : Fault) → P a → (a.number ≡ 0 → P b) → P (or_else a b)
-else_by P a b p q = by_test P (eqb a.number 0) (λ e. q (eqb-true a.number 0 e)) (λ e. p)
+else_by : (P : Verdict → Type 0) (a b : Verdict) → P a → (a ≡ nothing_wrong → P b) → P (or_else a b)
+else_by P (Ok _) b p q = q refl
+else_by P (Err f) b p q = p
 
 -- The offset is within what was lent and within the longest book, or at the end of these.
 
@@ -35,21 +36,21 @@ end_within version n v few = rw v (omega arith)
 
 -- the faults of n entries stand before their end
 each_within : (version mask n : ℕ) (earlier es : List Entry) → length earlier + length es ≤ n
-    → (each_fault version mask earlier es).offset ≤ entry_start version n
+    → offset_of (each_fault version mask earlier es) ≤ entry_start version n
 unfolding each_fault entry_fault
 each_within version mask n earlier [] l = omega arith
 each_within version mask n earlier (e ∷ es) l =
-    let In : Fault → Type 0 = λ f. f.offset ≤ entry_start version n in
-    either_way In (eqb (entry_fault mask earlier (entry_start version (length earlier)) e).number 0)
-    (each_within version mask n (earlier ++ (e ∷ [])) es (rw length-append (omega arith)))
+    let In : Verdict → Type 0 = λ v. offset_of v ≤ entry_start version n in
+    else_by In (entry_fault mask earlier (entry_start version (length earlier)) e) _
     (either_way In (not (is_form e.form)) (omega arith)
     (either_way In (not (is_width e.form e.w)) (omega arith)
     (either_way In (is_barred mask e.form) (omega arith)
     (either_way In (seen_in earlier e) (omega arith) (omega arith)))))
+    (λ z. each_within version mask n (earlier ++ (e ∷ [])) es (rw length-append (omega arith)))
 
 module _ (s : List ℕ) where
-  abbrev Within : Fault → Type 0
-  Within f = (f.offset ≤ length s) × (f.offset ≤ longest_book)
+  abbrev Within : Verdict → Type 0
+  Within v = (offset_of v ≤ length s) × (offset_of v ≤ longest_book)
 
   start_within : Within (start_fault s)
   unfolding start_fault
@@ -125,7 +126,7 @@ from_entry version s i (suc m) =
     ∙ rw (add-suc, suc-add)
 
 -- the checks that follow the values
-after_values : ℕ → ℕ → ℕ → List ℕ → Fault
+after_values : ℕ → ℕ → ℕ → List ℕ → Verdict
 after_values version mask n s = or_else (length_fault version s n) (each_fault version mask [] (entries_from version s 0 n))
 
 after_values_lem : (s : List ℕ)
@@ -169,22 +170,22 @@ module _ (s t : List ℕ) where
       )
 
   -- where f is a fault of s: its field ends at d or later, and g is f if t agrees with s up to that end
-  record Follows (d : ℕ) (f g : Fault) : Type 0 where
-    ends : (f.number ≡ 0 → ⊥) → d ≤ fault_end f
-    told : (f.number ≡ 0 → ⊥) → Agree s t (fault_end f) → g ≡ f
+  record Follows (d : ℕ) (f g : Verdict) : Type 0 where
+    ends : (number_of f ≡ 0 → ⊥) → d ≤ fault_end f
+    told : (number_of f ≡ 0 → ⊥) → Agree s t (fault_end f) → g ≡ f
 
-  fine_follows : (d : ℕ) {g : Fault} → Follows d nothing_wrong g
+  fine_follows : (d : ℕ) {g : Verdict} → Follows d nothing_wrong g
   fine_follows d = record { ends = λ w. absurd (w refl); told = λ w. absurd (w refl) }
 
-  sooner : (d e : ℕ) {f g : Fault} → d ≤ e → Follows e f g → Follows d f g
+  sooner : (d e : ℕ) {f g : Verdict} → d ≤ e → Follows e f g → Follows d f g
   sooner d e l k = record { ends = λ w. le_trans l (k.ends w); told = k.told }
 
   -- what is g once the first d bytes agree
-  retold : (d : ℕ) {f g h : Fault} → (Agree s t d → h ≡ g) → Follows d f g → Follows d f h
+  retold : (d : ℕ) {f g h : Verdict} → (Agree s t d → h ≡ g) → Follows d f g → Follows d f h
   retold d {f} same k = record { ends = k.ends; told = λ w a. same (fewer d (fault_end f) (k.ends w) a) ∙ k.told w a }
 
   -- a check that the first d bytes decide, before what the first e decide
-  check : (d e : ℕ) (test : List ℕ → Bool) (at : Fault) {f g : Fault} → d ≤ fault_end at → d ≤ e → (Agree s t d → test t ≡ test s)
+  check : (d e : ℕ) (test : List ℕ → Bool) (at : Verdict) {f g : Verdict} → d ≤ fault_end at → d ≤ e → (Agree s t d → test t ≡ test s)
       → Follows e f g → Follows d (cond (test s) at f) (cond (test t) at g)
   check d e test at {f} {g} l m same k = retold d (λ a. rw (same a)) (by (test s))
     where
@@ -193,14 +194,12 @@ module _ (s t : List ℕ) where
       by false = sooner d e m k
 
   -- a stage, before what follows where it finds nothing wrong
-  stage : (d e : ℕ) (a b : Fault) {r q : Fault} → d ≤ e → Follows d a b → (Agree s t e → b ≡ a) → (a.number ≡ 0 → Follows e r q)
+  stage : (d e : ℕ) (a b : Verdict) {r q : Verdict} → d ≤ e → Follows d a b → (Agree s t e → b ≡ a) → (a ≡ nothing_wrong → Follows e r q)
       → Follows d (or_else a r) (or_else b q)
-  stage d e a b {r} {q} l k same rest =
-      by_test (λ (f : Fault). Follows d f (or_else b q)) (eqb a.number 0)
-      (λ z.
-      sooner d e l
-      (retold e (λ h. ap (λ (x : Fault). or_else x q) (same h) ∙ rw z) (rest (eqb-true a.number 0 z))))
-      (λ z. record { ends = k.ends; told = λ w h. ap (λ (x : Fault). or_else x q) (k.told w h) ∙ rw z })
+  stage d e (Ok _) b {r} {q} l k same rest =
+      sooner d e l (retold e (λ h. ap (λ (x : Verdict). or_else x q) (same h)) (rest refl))
+  stage d e (Err f) b {r} {q} l k same rest =
+      record { ends = k.ends; told = λ w h. ap (λ (x : Verdict). or_else x q) (k.told w h) }
 
   values_follows : Follows mask_at (values_fault (book_of s)) (values_fault (book_of t))
   unfolding values_fault field_length

@@ -14,7 +14,6 @@ use Rattle.ground.specs.Digits.{all_below}
 use Rattle.ground.proofs.Test.{both_left, both_right}
 use Rattle.book.specs.declared.Entry.{Entry}
 use Rattle.book.specs.declared.Book.{Book}
-use Rattle.book.specs.declared.Fault.{Fault}
 use Rattle.book.specs.declared.BookRead.{BookRead}
 use Rattle.book.specs.Book.{mark, least_header, header_length, entry_length, most_entries, entry_start, version_in, entry_at, entries_of, no_entry, kept_entries, book_of, version_of, same_params}
 use Rattle.book.specs.Written.{entry_bytes, entries_bytes, header_bytes, book_bytes}
@@ -23,7 +22,7 @@ use Rattle.book.specs.Reading.{number_of, accepts, read_book, has_entry, entry_p
 use Rattle.book.specs.Kept.{is_none, all_none, is_padded, book_ok}
 use Rattle.book.proofs.Header.{start_fine, length_fine}
 use Rattle.book.proofs.Loading.{entries_length}
-use Rattle.book.proofs.NothingWrong.{started, valued, sized, Fine, fine, fine_zero}
+use Rattle.book.proofs.NothingWrong.{started, valued, sized, Fine, fine, fine_book}
 use Rattle.book.proofs.Versions.{least_header_lem, header_size, version_kept, version_written, version_known}
 use Rattle.book.proofs.Params.{same_equal}
 use Rattle.book.proofs.Reply.{read_number, read_accepted}
@@ -61,8 +60,7 @@ module _ (s : List ℕ) (b : Book) (h : read_book s ≡ accepts b) where
   read_fine = sym (read_number s (accepts b) (sym h))
 
   pub read_is : b ≡ book_of s
-  unfolding read_book
-  read_is = ap (λ (x : BookRead). x.book) (sym h) ∙ rw read_fine
+  read_is = ap (λ (x : BookRead). x.book) (sym h ∙ read_accepted s read_fine)
 
 -- The kept entries of the bytes s.
 
@@ -129,10 +127,10 @@ module _ (b : Book) (p : Passed b) where
       let v = version_in (book_bytes b) in
       let long : least_header ≤ length (book_bytes b) = omega (arith, bytes_size, least_header_lem v) in
       record {
-        start = ap (λ (f : Fault). f.number) (sym (start_fine (book_bytes b) true (version_of b) long refl refl (sym (version_written b)) (version_known b)));
-        values = ap (λ (x : Book). (values_fault x).number) book_back ∙ p.values;
-        size = ap (λ (f : Fault). f.number) (sym (length_fine v (book_bytes b) b.n b.n (entry_start v b.n) refl refl (omega (arith, bytes_size)) (omega (arith, bytes_size))));
-        entries = ap (λ (x : Book). (entries_fault v x).number) book_back ∙ rw version_written p.entries;
+        start = start_fine (book_bytes b) long refl (version_written b ∙ version_known b);
+        values = ap values_fault book_back ∙ p.values;
+        size = length_fine (book_bytes b) v b.n bytes_size;
+        entries = ap (entries_fault v) book_back ∙ rw version_written p.entries;
       }
 
 -- every book that passes is what reading its own bytes yields
@@ -140,7 +138,7 @@ pub passes_read : (b : Book) → book_ok b ≡ true → read_book (book_bytes b)
 unfolding read_book
 passes_read b h =
     let p = passed b h in
-    rw (fine_zero (book_bytes b) (written_fine b p), book_back b p)
+    rw (fine_book (book_bytes b) (written_fine b p), book_back b p)
 
 -- so the check is true exactly of the books that reading yields
 pub passes_exactly : (b : Book) → (book_ok b ≡ true) ↔ ((s : List ℕ) × (read_book s ≡ accepts b))

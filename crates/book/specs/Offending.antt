@@ -1,8 +1,8 @@
 -- What "the first offending byte" means: the field at fault starts at the offset, and what follows that field does not count.
 -- Assumes nothing.
 use Rattle.std.specs.Prelude.{ℕ, ◌+◌, ◌-◌, cond, ◌||◌, length, eqb}
-use Rattle.book.specs.declared.Fault.{Fault}
 use Rattle.book.specs.Book.{mark, book_version, entry_length, most_entries, form_in, entry_start}
+use Rattle.book.specs.Refusals.{Verdict, number_of, offset_of}
 
 -- the bytes of the field at fault: none for 1, whose offset is the length; the mark; a 16-bit number; for 9, from the form on, and for 10
 -- the whole entry, since it takes all of that to see the fault; else one byte
@@ -16,8 +16,8 @@ field_length number =
     1))))
 
 -- where that field ends
-abbrev pub fault_end : Fault → ℕ
-fault_end f = f.offset + field_length f.number
+abbrev pub fault_end : Verdict → ℕ
+fault_end v = offset_of v + field_length (number_of v)
 
 -- the bytes of the longest book
 abbrev pub longest_book : ℕ

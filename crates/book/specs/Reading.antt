@@ -1,35 +1,26 @@
 -- What reading a book replies, and what the lookup of an entry hands back. Assumes nothing.
-use Rattle.std.specs.Prelude.{ℕ, List, [], Bool, cond, ◌&&◌, take, drop, ltb, eqb}
+use Rattle.std.specs.Prelude.{ℕ, List, [], Bool, cond, ◌&&◌, take, drop, ltb, eqb, Ok, Err}
 use Rattle.book.specs.declared.Book.{Book}
 use Rattle.book.specs.declared.Fault.{Fault}
-use Rattle.book.specs.declared.Verdict.{Verdict}
-use Rattle.book.specs.declared.Verdict.TheVariants.{Accepted, Refused}
 use Rattle.book.specs.declared.BookRead.{BookRead}
 use Rattle.book.specs.Book.{entry_length, entry_start, version_in, book_of, no_book}
-use Rattle.book.specs.Refusals.{nothing_wrong, book_fault, book_no}
-
--- what each verdict says is wrong: nothing with an accepted book
-abbrev pub fault_of : Verdict → Fault
-fault_of Accepted = nothing_wrong
-fault_of (Refused f) = f
-
--- the number of each verdict: 0 for an accepted book
-abbrev pub number_of : Verdict → ℕ
-number_of v = (fault_of v).number
-
--- the offset of the first offending byte: 0 for an accepted book
-abbrev pub offset_of : Verdict → ℕ
-offset_of v = (fault_of v).offset
+use Rattle.book.specs.Refusals.{Verdict, nothing_wrong, book_fault, book_no}
+pub use Rattle.book.specs.Refusals.{number_of, offset_of}
 
 abbrev pub accepts : Book → BookRead
-accepts b = record { verdict = Accepted; book = b }
+accepts b = record { verdict = nothing_wrong; book = b }
 
 -- a refusal yields the number and the offset alone
 abbrev pub refuses : Fault → BookRead
-refuses f = record { verdict = Refused f; book = no_book }
+refuses f = record { verdict = Err f; book = no_book }
+
+-- what a verdict on the bytes of the book b yields
+abbrev pub yields : Verdict → Book → BookRead
+yields (Ok _) b = accepts b
+yields (Err f) b = refuses f
 
 unfoldable pub read_book : List ℕ → BookRead
-read_book s = cond (eqb (book_no s) 0) (accepts (book_of s)) (refuses (book_fault s))
+read_book s = yields (book_fault s) (book_of s)
 
 -- s is accepted and has an entry i
 unfoldable pub has_entry : List ℕ → ℕ → Bool

@@ -1,9 +1,9 @@
 // The bytes of a book: what stands where, and the checks of the bytes themselves.
-ghost use Rattle.std.specs.Prelude.{◌≡◌, ◌+◌, ◌*◌, ◌<◌, ◌≤◌, length};
+ghost use Rattle.std.specs.Prelude.{◌≡◌, ◌+◌, ◌*◌, ◌<◌, ◌≤◌, length, take, IfOk, IfErr, IsErrOf};
 ghost use Rattle.book.specs.Book.{least_header, header_length, entry_length, most_entries, entry_start, version_in, entry_at, kept_entries, header_of};
-ghost use Rattle.book.specs.Refusals.{fault, is_mark, start_fault, length_fault};
+ghost use Rattle.book.specs.Refusals.{fault, nothing_wrong, is_mark, start_fault, length_fault};
 
-use super::{Book, Entry, Fault, MOST_ENTRIES, NO_ENTRIES, NOTHING_WRONG};
+use super::{Book, Entry, Fault, MOST_ENTRIES, NO_ENTRIES, Refusal};
 
 pub(crate) const BOOK_VERSION: u16 = 1;
 
@@ -30,52 +30,54 @@ pub(crate) const FORM_IN: usize = 5;
 
 pub(crate) const WIDTH_IN: usize = 6;
 
-// A number of refusal and an offset.
-pub(crate) fn fault(number: u8, offset: usize) -> Fault
-    ensures { result ≡ fault number offset }
+// A refusal and an offset.
+pub(crate) fn fault(refusal: Refusal, offset: usize) -> Fault
+    ensures { IsErrOf (fault refusal offset) result }
 {
-    Fault { number, offset }
+    Fault { refusal, offset }
 }
 
 // The 16-bit number of two bytes.
 fn word(high: u8, low: u8) -> u16
     ensures { result ≡ 256 * high + low }
 {
-    256 * (high as u16) + (low as u16)
+    u16::from_be_bytes([high, low])
 }
 
-fn is_mark(s: &[u8]) -> bool
-    requires { least_header ≤ length s.now }
+fn is_mark(s: &[u8; LEAST_HEADER]) -> bool
     ensures { result ≡ is_mark s.now }
 {
-    (s[0] == b'T') & (s[1] == b'L') & (s[2] == b'B')
+    matches!(s, [b'T', b'L', b'B', ..])
 }
 
 // The version that s is of.
-pub(crate) fn version_in(s: &[u8]) -> u16
-    requires { least_header ≤ length s.now }
+#[tactic(auto, unfolding(crate::specs::Book::version_in))]
+pub(crate) fn version_in(s: &[u8; LEAST_HEADER]) -> u16
     ensures { result ≡ version_in s.now }
 {
     word(s[VERSION_AT], s[VERSION_AT + 1])
 }
 
-// 1 for fewer than 10 bytes, 2 and 3.
-pub(crate) fn start_fault(s: &[u8]) -> Fault
-    ensures { result ≡ start_fault s.now }
+// The header of s, or what is wrong with its start: 1 for fewer than 10 bytes, 2 and 3.
+#[tactic(auto, using(crate::proofs::Header::first_ten), unfolding(crate::specs::Refusals::start_fault))]
+pub(crate) fn header(s: &[u8]) -> Result<&[u8; LEAST_HEADER], Fault>
+    ensures fine { IfOk result (λ h. (start_fault s.now ≡ nothing_wrong) × (h.now ≡ take least_header s.now)) }
+    ensures wrong { IfErr result (λ f. start_fault s.now ≡ Err f) }
 {
-    if s.len() < LEAST_HEADER {
-        return fault(1, s.len());
+    let Some(header) = s.first_chunk() else {
+        return Err(fault(Refusal::TooShort, s.len()));
+    };
+    if !is_mark(header) {
+        return Err(fault(Refusal::Mark, MARK_AT));
     }
-    if !is_mark(s) {
-        return fault(2, MARK_AT);
+    if version_in(header) != BOOK_VERSION {
+        return Err(fault(Refusal::BookVersion, VERSION_AT));
     }
-    if version_in(s) != BOOK_VERSION {
-        return fault(3, VERSION_AT);
-    }
-    NOTHING_WRONG
+    Ok(header)
 }
 
 // The bytes before the entries, by the book's version: 10 in the only one.
+#[tactic(auto, unfolding(crate::specs::Book::header_length))]
 fn header_length(version: u16) -> usize
     ensures { (result ≡ header_length version) × (result < 256) }
 {
@@ -91,29 +93,28 @@ pub(crate) fn entry_start(version: u16, i: usize) -> usize
 }
 
 // 1 for fewer than 10+7n bytes, and 11.
-pub(crate) fn length_fault(version: u16, s: &[u8], n: u8) -> Fault
+#[tactic(auto, unfolding(crate::specs::Refusals::length_fault))]
+pub(crate) fn length_fault(version: u16, s: &[u8], n: u8) -> Result<(), Fault>
     ensures { result ≡ length_fault version s.now n }
 {
-    let end = entry_start(version, n as usize);
+    let end = entry_start(version, usize::from(n));
     if s.len() < end {
-        return fault(1, s.len());
+        return Err(fault(Refusal::TooShort, s.len()));
     }
     if end < s.len() {
-        return fault(11, end);
+        return Err(fault(Refusal::TooLong, end));
     }
-    NOTHING_WRONG
+    Ok(())
 }
 
-// The values of s, with no entries yet.
-pub(crate) fn header(s: &[u8]) -> Book
-    requires { least_header ≤ length s.now }
+// The values of a header, with no entries yet.
+pub(crate) fn values(s: &[u8; LEAST_HEADER]) -> Book
     ensures { result ≡ header_of s.now }
 {
-    let limit = word(s[LIMIT_AT], s[LIMIT_AT + 1]);
     Book {
         role: s[ROLE_AT],
         mask: s[MASK_AT],
-        limit: limit,
+        limit: word(s[LIMIT_AT], s[LIMIT_AT + 1]),
         n: s[COUNT_AT],
         entries: NO_ENTRIES,
     }
@@ -136,16 +137,14 @@ fn entry_at(s: &[u8], k: usize) -> Entry
 }
 
 // The array that keeps the first n entries of s.
+#[tactic(auto, using(crate::proofs::Loading::kept_suc), unfolding(crate::specs::Book::kept_entries, crate::specs::Book::entries_of))]
 pub(crate) fn load(version: u16, s: &[u8], n: usize) -> [Entry; MOST_ENTRIES]
     requires { (n ≤ most_entries) × (entry_start version n ≤ length s.now) }
     ensures { result ≡ kept_entries version s.now n }
 {
     let mut es = NO_ENTRIES;
-    let mut i = 0;
-    while i < n {
-        let e = entry_at(s, entry_start(version, i));
-        es[i] = e;
-        i += 1;
+    for i in 0..n {
+        es[i] = entry_at(s, entry_start(version, i));
     }
     es
 }

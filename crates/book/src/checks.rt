@@ -1,50 +1,51 @@
 // The checks of a book's values and of its entries, which reading and the check of a kept book share.
-ghost use Rattle.std.specs.Prelude.{◌≡◌, ◌<◌, ◌≤◌, [], get_or, take};
-ghost use Rattle.book.specs.Book.{most_entries, no_entry, same_params};
+ghost use Rattle.std.specs.Prelude.{◌≡◌, ◌<◌, ◌≤◌, [], length};
+ghost use Rattle.book.specs.Book.{most_entries, same_params};
 ghost use Rattle.book.specs.Refusals.{is_mask, wrong_count, values_fault, is_form, is_width, is_barred, seen_in, entry_fault, each_fault};
-ghost use Rattle.book.specs.Kept.{is_none, is_padded};
+ghost use Rattle.book.specs.Kept.{all_none};
 
 use super::bytes::{COUNT_AT, FORM_IN, LIMIT_AT, MASK_AT, ROLE_AT, WIDTH_IN, entry_start, fault};
-use super::{ANSWERING, Book, Entry, Fault, MOST_ENTRIES, NO_ENTRY, NOTHING_WRONG, ORIGINATING};
+use super::{ANSWERING, Book, Entry, Fault, MOST_ENTRIES, NO_ENTRY, ORIGINATING, Refusal};
 
 const LEAST_LIMIT: u16 = 425;
 
 fn is_mask(mask: u8) -> bool
     ensures { result ≡ is_mask mask }
 {
-    (mask == 1) | (mask == 2) | (mask == 3)
+    matches!(mask, 1..=3)
 }
 
 // n is 0, above 8, or not 1 when originating.
 fn wrong_count(role: u8, n: u8) -> bool
     ensures { result ≡ wrong_count role n }
 {
-    (n == 0) | (MOST_ENTRIES < n as usize) | ((role == ORIGINATING) & (n != 1))
+    n == 0 || usize::from(n) > MOST_ENTRIES || (role == ORIGINATING && n != 1)
 }
 
 // 4 to 7.
-pub(crate) fn values_fault(b: Book) -> Fault
+#[tactic(auto, unfolding(crate::specs::Refusals::values_fault))]
+pub(crate) fn values_fault(b: Book) -> Result<(), Fault>
     ensures { result ≡ values_fault b }
 {
     if ANSWERING < b.role {
-        return fault(4, ROLE_AT);
+        return Err(fault(Refusal::Role, ROLE_AT));
     }
     if !is_mask(b.mask) {
-        return fault(5, MASK_AT);
+        return Err(fault(Refusal::Mask, MASK_AT));
     }
     if b.limit < LEAST_LIMIT {
-        return fault(6, LIMIT_AT);
+        return Err(fault(Refusal::Limit, LIMIT_AT));
     }
     if wrong_count(b.role, b.n) {
-        return fault(7, COUNT_AT);
+        return Err(fault(Refusal::Count, COUNT_AT));
     }
-    NOTHING_WRONG
+    Ok(())
 }
 
 fn is_form(form: u8) -> bool
     ensures { result ≡ is_form form }
 {
-    (form == 0) | (form == 6) | (form == 7) | (form == 8)
+    matches!(form, 0 | 6 | 7 | 8)
 }
 
 // w is 5 to 8 in form 0, and 0 in every other.
@@ -52,7 +53,7 @@ fn is_width(form: u8, w: u8) -> bool
     ensures { result ≡ is_width form w }
 {
     if form == 0 {
-        (5 <= w) & (w <= 8)
+        matches!(w, 5..=8)
     } else {
         w == 0
     }
@@ -62,85 +63,60 @@ fn is_width(form: u8, w: u8) -> bool
 fn is_barred(mask: u8, form: u8) -> bool
     ensures { result ≡ is_barred mask form }
 {
-    (form == 8) & (mask == 1)
+    form == 8 && mask == 1
 }
 
 fn same_params(a: Entry, b: Entry) -> bool
     ensures { result ≡ same_params a b }
 {
-    (a.p0 == b.p0) & (a.p1 == b.p1) & (a.p2 == b.p2) & (a.p3 == b.p3) & (a.p4 == b.p4)
+    a.params() == b.params()
 }
 
-// Some entry before i has e's five parameters.
-fn seen(es: [Entry; MOST_ENTRIES], i: usize, e: Entry) -> bool
-    requires { i ≤ most_entries }
-    ensures { result ≡ seen_in (take i es) e }
+// Some earlier entry has e's five parameters.
+#[tactic(auto, unfolding(crate::specs::Refusals::seen_in))]
+fn seen(earlier: &[Entry], e: Entry) -> bool
+    ensures { result ≡ seen_in earlier.now e }
 {
-    let mut found = false;
-    let mut j = 0;
-    while j < i {
-        let x = es[j];
-        found = found | same_params(x, e);
-        j += 1;
-    }
-    found
+    earlier.iter().any(|x| same_params(*x, e))
 }
 
-// 8, 17, 9 and 10 of entry i, which starts at that byte.
-fn entry_fault(es: [Entry; MOST_ENTRIES], i: usize, start: usize, mask: u8) -> Fault
-    requires { (i < most_entries) × (start < 2048) }
-    ensures { result ≡ entry_fault mask (take i es) start (get_or es i no_entry) }
+// 8, 17, 9 and 10 of the entry e, which starts at that byte.
+#[tactic(auto, unfolding(crate::specs::Refusals::entry_fault))]
+fn entry_fault(earlier: &[Entry], e: Entry, start: usize, mask: u8) -> Result<(), Fault>
+    requires { start < 2048 }
+    ensures { result ≡ entry_fault mask earlier.now start e }
 {
-    let e = es[i];
     if !is_form(e.form) {
-        return fault(8, start + FORM_IN);
+        return Err(fault(Refusal::Form, start + FORM_IN));
     }
     if !is_width(e.form, e.w) {
-        return fault(17, start + WIDTH_IN);
+        return Err(fault(Refusal::WordLength, start + WIDTH_IN));
     }
     if is_barred(mask, e.form) {
-        return fault(9, start + FORM_IN);
+        return Err(fault(Refusal::BarredForm, start + FORM_IN));
     }
-    if seen(es, i, e) {
-        return fault(10, start);
+    if seen(earlier, e) {
+        return Err(fault(Refusal::SameParameters, start));
     }
-    NOTHING_WRONG
+    Ok(())
 }
 
-// 8, 17, 9 and 10 of the first n entries of a book of that version, entry by entry.
-pub(crate) fn entries_fault(version: u16, es: [Entry; MOST_ENTRIES], n: usize, mask: u8) -> Fault
-    requires { n ≤ most_entries }
-    ensures { result ≡ each_fault version mask [] (take n es) }
+// 8, 17, 9 and 10 of the entries of a book of that version, entry by entry.
+#[tactic(auto, using(crate::proofs::Entries::run_at), unfolding(crate::specs::Refusals::each_fault))]
+pub(crate) fn entries_fault(version: u16, es: &[Entry], mask: u8) -> Result<(), Fault>
+    requires { length es.now ≤ most_entries }
+    ensures { result ≡ each_fault version mask [] es.now }
 {
-    let mut i = 0;
-    while i < n {
-        let found = entry_fault(es, i, entry_start(version, i), mask);
-        if found.number != 0 {
-            return found;
-        }
-        i += 1;
+    for (i, e) in es.iter().enumerate() {
+        entry_fault(&es[..i], *e, entry_start(version, i), mask)?;
     }
-    NOTHING_WRONG
+    Ok(())
 }
 
-fn is_none(e: Entry) -> bool
-    ensures { result ≡ is_none e }
+// Whether nothing stands in es.
+#[tactic(auto, unfolding(crate::specs::Kept::all_none))]
+pub(crate) fn all_none(es: &[Entry]) -> bool
+    ensures { result ≡ all_none es.now }
 {
-    same_params(e, NO_ENTRY) & (e.form == 0) & (e.w == 0)
-}
-
-// Nothing stands in es from n on.
-pub(crate) fn is_padded(es: [Entry; MOST_ENTRIES], n: usize) -> bool
-    requires { n ≤ most_entries }
-    ensures { result ≡ is_padded es n }
-{
-    let mut i = n;
-    while i < MOST_ENTRIES {
-        let e = es[i];
-        if !is_none(e) {
-            return false;
-        }
-        i += 1;
-    }
-    true
+    es.iter().all(|e| *e == NO_ENTRY)
 }

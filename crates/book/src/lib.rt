@@ -1,9 +1,10 @@
 // The book that configures a unit: its bytes are read and kept, or refused by number, and a kept book is checked again.
 #![tactic(auto)]
 
-ghost use Rattle.std.specs.Prelude.{◌≡◌, ◌+◌};
-ghost use Rattle.book.specs.Reading.{fault_of, number_of, offset_of, refuses, read_book, entry_part, part_at};
-ghost use Rattle.book.specs.Refusals.{book_no, book_offset};
+ghost use Rattle.std.specs.Prelude.{◌≡◌, ◌+◌, IfOk, IfErr};
+ghost use Rattle.book.specs.Book.{book_of, params_of};
+ghost use Rattle.book.specs.Reading.{number_of, offset_of, read_book, entry_part, part_at};
+ghost use Rattle.book.specs.Refusals.{refusal_number, nothing_wrong, book_fault, book_no, book_offset};
 ghost use Rattle.book.specs.Kept.{book_ok};
 
 mod bytes; // bytes.rt: what stands where in the bytes, and the checks of the bytes themselves
@@ -16,44 +17,76 @@ pub const ANSWERING: u8 = 1;
 pub const MOST_ENTRIES: usize = 8;
 
 // One profile: five parameters, the form of data, and the word's width in form 0.
-#[derive(Clone, Copy)]
+#[derive(Clone, Copy, PartialEq, Eq, Debug)]
 pub struct Entry {
+    // five fields, not an array: for the theorems an array is a list of any length, and passes_read is of any book
     pub p0: u8,
     pub p1: u8,
     pub p2: u8,
     pub p3: u8,
     pub p4: u8,
+    // a number, not an enum: 13 refuses a stored book with any other
     pub form: u8,
     pub w: u8,
 }
 
+impl Entry {
+    fn params(self) -> [u8; 5]
+        ensures { result ≡ params_of self }
+    {
+        [self.p0, self.p1, self.p2, self.p3, self.p4]
+    }
+}
+
 // The kept book. Past the n entries stand entries of zeros.
-#[derive(Clone, Copy)]
+#[derive(Clone, Copy, PartialEq, Eq, Debug)]
 pub struct Book {
+    // role and mask are numbers, not enums: 13 refuses a stored book with any other
     pub role: u8,
     pub mask: u8,
     pub limit: u16,
     pub n: u8,
+    // an array beside its count: document 01 has eight entries kept whole, and 13 refuses a stored book with more past them
     pub entries: [Entry; MOST_ENTRIES],
 }
 
-// What is wrong: the number of refusal, and the offset of the first offending byte. Number 0 where nothing is wrong.
-#[derive(Clone, Copy)]
+// Why a book is refused, each with its number of refusal.
+#[derive(Clone, Copy, PartialEq, Eq, Debug)]
+pub enum Refusal {
+    TooShort = 1,
+    Mark = 2,
+    BookVersion = 3,
+    Role = 4,
+    Mask = 5,
+    Limit = 6,
+    Count = 7,
+    Form = 8,
+    BarredForm = 9,
+    SameParameters = 10,
+    TooLong = 11,
+    WordLength = 17,
+}
+
+impl Refusal {
+    pub fn number(self) -> u8
+        ensures { result ≡ refusal_number self }
+    {
+        self as u8
+    }
+}
+
+// What is wrong: the refusal, and the offset of the first offending byte.
+#[derive(Clone, Copy, PartialEq, Eq, Debug)]
 pub struct Fault {
-    pub number: u8,
+    pub refusal: Refusal,
     pub offset: usize,
 }
 
-#[derive(Clone, Copy)]
-pub enum Verdict {
-    Accepted,
-    Refused(Fault),
-}
-
-// The verdict, with the kept book where it accepts, and zeros where it refuses.
-#[derive(Clone, Copy)]
+// The verdict, with the kept book where it accepts, and zeros where it refuses. A struct, since theorem no_call speaks of
+// what stands beside a refusal.
+#[derive(Clone, Copy, PartialEq, Eq, Debug)]
 pub struct BookRead {
-    pub verdict: Verdict,
+    pub verdict: Result<(), Fault>,
     pub book: Book,
 }
 
@@ -68,11 +101,6 @@ pub const NO_ENTRY: Entry = Entry {
     w: 0,
 };
 
-const NOTHING_WRONG: Fault = Fault {
-    number: 0,
-    offset: 0,
-};
-
 const NO_ENTRIES: [Entry; MOST_ENTRIES] = [NO_ENTRY; MOST_ENTRIES];
 
 // What stands beside a refusal.
@@ -84,68 +112,53 @@ const NO_BOOK: Book = Book {
     entries: NO_ENTRIES,
 };
 
-fn fault_of(v: Verdict) -> Fault
-    ensures { result ≡ fault_of v }
-{
-    match v {
-        Verdict::Accepted => NOTHING_WRONG,
-        Verdict::Refused(f) => f,
-    }
-}
-
 // The verdict's number: 0 for an accepted book.
-pub fn number(v: Verdict) -> u8
+pub fn number(v: Result<(), Fault>) -> u8
     ensures { result ≡ number_of v }
 {
-    fault_of(v).number
+    v.err().map_or(0, |f| f.refusal.number())
 }
 
 // The offset of the first offending byte: 0 for an accepted book.
-pub fn offset(v: Verdict) -> usize
+pub fn offset(v: Result<(), Fault>) -> usize
     ensures { result ≡ offset_of v }
 {
-    fault_of(v).offset
+    v.err().map_or(0, |f| f.offset)
 }
 
-fn refused(f: Fault) -> BookRead
-    ensures { result ≡ refuses f }
+// The book of s, or what is wrong with it first.
+#[tactic(auto, using(crate::proofs::Header::first_ten), unfolding(crate::specs::Refusals::book_fault, crate::specs::Refusals::values_fault, crate::specs::Refusals::entries_fault))]
+fn checked(s: &[u8]) -> Result<Book, Fault>
+    ensures accepted { IfOk result (λ b. (book_fault s.now ≡ nothing_wrong) × (b ≡ book_of s.now)) }
+    ensures refused { IfErr result (λ f. book_fault s.now ≡ Err f) }
 {
-    BookRead {
-        verdict: Verdict::Refused(f),
-        book: NO_BOOK,
-    }
+    let header = bytes::header(s)?;
+    let mut book = bytes::values(header);
+    checks::values_fault(book)?;
+    let version = bytes::version_in(header);
+    bytes::length_fault(version, s, book.n)?;
+    let n = usize::from(book.n);
+    book.entries = bytes::load(version, s, n);
+    checks::entries_fault(version, &book.entries[..n], book.mask)?;
+    Ok(book)
 }
 
 // The book of s, or the number that refuses it and the offset of the first offending byte.
+#[tactic(auto, unfolding(crate::specs::Reading::read_book))]
 pub fn read_book(s: &[u8]) -> BookRead
     ensures value { result ≡ read_book s.now }
     ensures number { number_of result.verdict ≡ book_no s.now }
     ensures offset { offset_of result.verdict ≡ book_offset s.now }
 {
-    let start = bytes::start_fault(s);
-    if start.number != 0 {
-        return refused(start);
-    }
-    let mut book = bytes::header(s);
-    let values = checks::values_fault(book);
-    if values.number != 0 {
-        return refused(values);
-    }
-    let version = bytes::version_in(s);
-    let length = bytes::length_fault(version, s, book.n);
-    if length.number != 0 {
-        return refused(length);
-    }
-    let n = book.n as usize;
-    let es = bytes::load(version, s, n);
-    let entries = checks::entries_fault(version, es, n, book.mask);
-    if entries.number != 0 {
-        return refused(entries);
-    }
-    book.entries = es;
-    BookRead {
-        verdict: Verdict::Accepted,
-        book: book,
+    match checked(s) {
+        Ok(book) => BookRead {
+            verdict: Ok(()),
+            book,
+        },
+        Err(f) => BookRead {
+            verdict: Err(f),
+            book: NO_BOOK,
+        },
     }
 }
 
@@ -155,31 +168,25 @@ pub fn entry_part(s: &[u8], i: usize) -> &[u8]
     ensures place { result.ref_ptr ≡ (s.entry.ref_ptr.0, s.entry.ref_ptr.1 + part_at s.now i) }
 {
     let answer = read_book(s);
-    let verdict = answer.verdict;
-    if number(verdict) != 0 {
+    if answer.verdict.is_err() {
         return &s[..0];
     }
-    let n = answer.book.n as usize;
-    if n <= i {
+    if usize::from(answer.book.n) <= i {
         return &s[..0];
     }
-    let k = bytes::entry_start(bytes::version_in(s), i);
+    let k = bytes::entry_start(bytes::BOOK_VERSION, i);
     &s[k..k + bytes::ENTRY_LENGTH]
 }
 
 // Whether b is a book that reading yields.
+#[tactic(auto, using(crate::proofs::NothingWrong::few), unfolding(crate::specs::Kept::book_ok, crate::specs::Kept::is_padded, crate::specs::Book::version_of, crate::specs::Refusals::entries_fault))]
 pub fn book_ok(b: Book) -> bool
     ensures { result ≡ book_ok b }
 {
-    let values = checks::values_fault(b);
-    if values.number != 0 {
+    if checks::values_fault(b).is_err() {
         return false;
     }
-    let es = b.entries;
-    let n = b.n as usize;
-    let entries = checks::entries_fault(bytes::BOOK_VERSION, es, n, b.mask);
-    if entries.number != 0 {
-        return false;
-    }
-    checks::is_padded(es, n)
+    let n = usize::from(b.n);
+    let entries = checks::entries_fault(bytes::BOOK_VERSION, &b.entries[..n], b.mask);
+    entries.is_ok() && checks::all_none(&b.entries[n..])
 }

@@ -7,14 +7,15 @@ use native.Mathlib.Numerals.{add-one}
 use native.Mathlib.Omega.{arith}
 use lib.Dec.{eqb}
 use lib.ListN.{length, get_or, take, drop, length-append, drop_of_length-le}
-use lib.Seq.{length-take-le, drop-cons, get_or-take, paste}
+use lib.Seq.{drop-cons, paste}
+use Rattle.std.specs.Prelude.{Err}
 use Rattle.ground.proofs.Test.{either_way}
 use Rattle.book.specs.declared.Entry.{Entry}
 use Rattle.book.specs.declared.Book.{Book}
 use Rattle.book.specs.declared.Fault.{Fault}
 use Rattle.book.specs.declared.BookRead.{BookRead}
-use Rattle.book.specs.declared.Verdict.TheVariants.{Accepted, Refused}
-use Rattle.book.specs.Book.{originating, most_entries, no_entry}
+use Rattle.book.specs.Book.{originating, no_entry}
+use Rattle.book.specs.Refusals.{refusal_number, nothing_wrong}
 use Rattle.book.specs.Reading.{number_of, offset_of, read_book}
 use Rattle.book.specs.Kept.{book_ok}
 use Rattle.book.proofs.Offending.{offset_short}
@@ -36,7 +37,7 @@ Short n xs = length xs ≤ n
 
 pub at_most : (f : Fault) → length (fault_at f) ≤ 39
 unfolding fault_at
-at_most f = simp length-append (omega (arith, decimal_most f.number, decimal_most f.offset))
+at_most f = simp length-append (omega (arith, decimal_most (refusal_number f.refusal), decimal_most f.offset))
 
 pub named_most : (number : ℕ) → length (fault_named number) ≤ 34
 unfolding fault_named Short
@@ -85,15 +86,15 @@ named_line number ee en eu = simp (eu, en, ee, appended_text)
 
 module _ (f : Fault) (out : List ℕ) {t : Text} (et : t ≡ text (fault_at f))
     {at : ℕ} (ea : at ≡ 0 + put_count t 0 out) {mid : List ℕ} (em : mid ≡ paste out 0 t.bytes (put_count t 0 out))
-    {u : Text} (eu : u ≡ text (fault_named f.number ++ ascii "\n"))
+    {u : Text} (eu : u ≡ text (fault_named (refusal_number f.refusal) ++ ascii "\n"))
     {r : ℕ} (er : r ≡ at + put_count u at mid) {after : List ℕ} (ef : after ≡ paste mid at u.bytes (put_count u at mid)) where
   named : List ℕ
-  named = fault_named f.number ++ ascii "\n"
+  named = fault_named (refusal_number f.refusal) ++ ascii "\n"
 
   all_put : SoFar (refused_line f) out [] after r
   unfolding refused_line named
   all_put =
-      let fits : length named ≤ room = simp length-append (omega (arith, named_most f.number)) in
+      let fits : length named ≤ room = simp length-append (omega (arith, named_most (refusal_number f.refusal))) in
       let first = go_on (fault_at f) named (omega (arith, at_most f)) (begin (refused_line f) out) et ea em in
       go_on named [] fits (subst (λ (l : List ℕ). SoFar (refused_line f) out l mid at) (sym (append-nil named)) first) eu er ef
 
@@ -102,39 +103,32 @@ module _ (f : Fault) (out : List ℕ) {t : Text} (et : t ≡ text (fault_at f))
 
 -- The entries of an accepted book, from i on: what was to be said when they began has come so far.
 
-pub record Telling (es : List Entry) (n : ℕ) (out₀ : List ℕ) (at₀ i : ℕ) (out : List ℕ) (at : ℕ) : Type 0 where
-  pub told : (whole first : List ℕ) → SoFar whole first (entry_lines 0 (take n es)) out₀ at₀
-      → SoFar whole first (entry_lines i (drop i (take n es))) out at
+pub record Telling (es : List Entry) (out₀ : List ℕ) (at₀ i : ℕ) (out : List ℕ) (at : ℕ) : Type 0 where
+  pub told : (whole first : List ℕ) → SoFar whole first (entry_lines 0 es) out₀ at₀ → SoFar whole first (entry_lines i (drop i es)) out at
 
-module _ (es : List Entry) (n : ℕ) (few : n ≤ most_entries) (all : length es ≡ most_entries) where
-  count : length (take n es) ≡ n
-  count = length-take-le n es (omega arith)
-
-  pub start : (out : List ℕ) (at : ℕ) → Telling es n out at 0 out at
+module _ (es : List Entry) where
+  pub start : (out : List ℕ) (at : ℕ) → Telling es out at 0 out at
   start out at = record { told = λ whole first f. f }
 
-  module _ {out₀ : List ℕ} {at₀ i : ℕ} {out : List ℕ} {at : ℕ} (f : Telling es n out₀ at₀ i out at) where
-    pub next : i < n → {t : Text} → t ≡ text (entry_line i (get_or es i no_entry))
+  module _ {out₀ : List ℕ} {at₀ i : ℕ} {out : List ℕ} {at : ℕ} (f : Telling es out₀ at₀ i out at) where
+    pub next : i < length es → {t : Text} → t ≡ text (entry_line i (get_or es i no_entry))
         → {r : ℕ} → r ≡ at + put_count t at out → {after : List ℕ} → after ≡ paste out at t.bytes (put_count t at out)
-        → Telling es n out₀ at₀ (i + 1) after r
+        → Telling es out₀ at₀ (i + 1) after r
     unfolding entry_lines
     next h et er ef =
         let e = get_or es i no_entry in
-        let l : i < length (take n es) = omega (arith, count) in
-        let here : drop i (take n es) ≡ get_or es i no_entry ∷ drop (i + 1) (take n es) =
-        rw (add-one, drop-cons (take n es) i no_entry l, get_or-take) in
+        let here : drop i es ≡ get_or es i no_entry ∷ drop (i + 1) es = rw (add-one, drop-cons es i no_entry h) in
         record {
           told =
               λ whole first g.
-              go_on (entry_line i e) (entry_lines (i + 1) (drop (i + 1) (take n es))) (omega (arith, entry_most i e))
+              go_on (entry_line i e) (entry_lines (i + 1) (drop (i + 1) es)) (omega (arith, entry_most i e))
               (subst (λ (xs : List Entry). SoFar whole first (entry_lines i xs) out at) here (f.told whole first g)) et er ef;
         }
 
-    pub finish : n ≤ i → (whole first : List ℕ) → SoFar whole first (entry_lines 0 (take n es)) out₀ at₀ → SoFar whole first [] out at
+    pub finish : length es ≤ i → (whole first : List ℕ) → SoFar whole first (entry_lines 0 es) out₀ at₀ → SoFar whole first [] out at
     unfolding entry_lines
     finish h whole first g =
-        let end : length (take n es) ≤ i = omega (arith, count) in
-        subst (λ (xs : List Entry). SoFar whole first (entry_lines i xs) out at) (drop_of_length-le (take n es) end) (f.told whole first g)
+        subst (λ (xs : List Entry). SoFar whole first (entry_lines i xs) out at) (drop_of_length-le es h) (f.told whole first g)
 
 -- An accepted book: the header, then the entries.
 module _ (b : Book) (out : List ℕ) {t : Text} (et : t ≡ text (header_lines b))
@@ -144,11 +138,11 @@ module _ (b : Book) (out : List ℕ) {t : Text} (et : t ≡ text (header_lines b
   header_put =
       go_on (header_lines b) (entry_lines 0 (take b.n b.entries)) (omega (arith, header_most b)) (begin (accepted_lines b) out) et ea em
 
-  pub accepted : (b.n ≤ most_entries) → length b.entries ≡ most_entries → {i : ℕ} {after : List ℕ} {at : ℕ}
-      → Telling b.entries b.n out₀ at₀ i after at → b.n ≤ i
+  pub accepted : {es : List Entry} → es ≡ take b.n b.entries → {i : ℕ} {after : List ℕ} {at : ℕ} → Telling es out₀ at₀ i after at → length es ≤ i
       → (at ≡ min (length (accepted_lines b)) (length out)) × (after ≡ over (accepted_lines b) out)
-  accepted few all f h =
-      let g = finish b.entries b.n few all f h (accepted_lines b) out header_put in
+  accepted {es} e f h =
+      let put = rw (← e) at header_put in
+      let g = finish es f h (accepted_lines b) out put in
       (finish_count g, finish_buffer g)
 
 -- What is told of the bytes s goes by the verdict on them.
@@ -157,7 +151,7 @@ module _ (s : List ℕ) {a : BookRead} (ea : a ≡ read_book s) where
   unfolding book_says
   says = ap (λ (r : BookRead). says_of r.book r.verdict) (sym ea)
 
-  module _ (v : a.verdict ≡ Accepted) where
+  module _ (v : a.verdict ≡ nothing_wrong) where
     pub kept_book : book_ok a.book ≡ true
     kept_book =
         let z : number_of (read_book s).verdict ≡ 0 = ap (λ (r : BookRead). number_of r.verdict) (sym ea) ∙ ap number_of v in
@@ -166,7 +160,7 @@ module _ (s : List ℕ) {a : BookRead} (ea : a ≡ read_book s) where
     pub says_accepted : book_says s ≡ accepted_lines a.book
     says_accepted = says ∙ ap (says_of a.book) v
 
-  module _ (f : Fault) (v : a.verdict ≡ Refused f) where
+  module _ (f : Fault) (v : a.verdict ≡ Err f) where
     pub offset_fits : f.offset < 2 ^ 16
     offset_fits = rw (sym (ap offset_of v) ∙ read_offset s a ea) (offset_short s)
 

@@ -6,11 +6,11 @@ use Prim.Native.Nat.{ℕ, ◌+◌, ◌*◌, ◌≤◌, ◌<◌, min}
 use native.Mathlib.Omega.{arith}
 use lib.ListN.{length, take, length-append}
 use lib.Seq.{length-take-le}
+use Rattle.std.specs.Prelude.{Ok, Err}
 use Rattle.book.specs.declared.Entry.{Entry}
 use Rattle.book.specs.declared.Book.{Book}
 use Rattle.book.specs.declared.BookRead.{BookRead}
-use Rattle.book.specs.declared.Verdict.{Verdict}
-use Rattle.book.specs.declared.Verdict.TheVariants.{Accepted, Refused}
+use Rattle.book.specs.Refusals.{Verdict, refusal_number}
 use Rattle.book.specs.Offending.{longest_book}
 use Rattle.book.specs.Reading.{read_book}
 use Rattle.book.specs.Kept.{book_ok}
@@ -40,8 +40,8 @@ unfolding book_says refused_line
 any_book_fits s = by (read_book s).verdict refl
   where
     by : (v : Verdict) → (read_book s).verdict ≡ v → length (says_of (read_book s).book v) ≤ 400
-    by Accepted e = omega (arith, accepted_most (read_book s).book (kept_book s refl e))
-    by (Refused f) e = simp length-append (omega (arith, at_most f, named_most f.number))
+    by (Ok _) e = omega (arith, accepted_most (read_book s).book (kept_book s refl e))
+    by (Err f) e = simp length-append (omega (arith, at_most f, named_most (refusal_number f.refusal)))
 
 -- so that the part of such a buffer that was written is all that is told
 pub all_told : (s out : List ℕ) → 400 ≤ length out

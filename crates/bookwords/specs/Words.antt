@@ -1,11 +1,10 @@
 -- What a person is told of a book: the first fault, or what the book says, line by line. Assumes nothing.
-use Rattle.std.specs.Prelude.{cond, List, [], ◌∷◌, ◌++◌, ℕ, ◌+◌, eqb, take}
+use Rattle.std.specs.Prelude.{cond, List, [], ◌∷◌, ◌++◌, ℕ, ◌+◌, eqb, take, Ok, Err}
 use Rattle.book.specs.declared.Entry.{Entry}
 use Rattle.book.specs.declared.Book.{Book}
 use Rattle.book.specs.declared.Fault.{Fault}
-use Rattle.book.specs.declared.Verdict.{Verdict}
-use Rattle.book.specs.declared.Verdict.TheVariants.{Accepted, Refused}
 use Rattle.book.specs.Book.{originating}
+use Rattle.book.specs.Refusals.{Verdict, refusal_number}
 use Rattle.book.specs.Reading.{read_book}
 use Rattle.text.specs.Ascii.{ascii}
 use Rattle.text.specs.Numerals.{decimal_of, parameters_of}
@@ -29,10 +28,10 @@ fault_named number =
 
 -- number, and byte
 unfoldable pub fault_at : Fault → List ℕ
-fault_at f = ascii "refused by number " ++ decimal_of f.number ++ ascii " at byte " ++ decimal_of f.offset ++ ascii ": "
+fault_at f = ascii "refused by number " ++ decimal_of (refusal_number f.refusal) ++ ascii " at byte " ++ decimal_of f.offset ++ ascii ": "
 
 unfoldable pub refused_line : Fault → List ℕ
-refused_line f = fault_at f ++ (fault_named f.number ++ ascii "\n")
+refused_line f = fault_at f ++ (fault_named (refusal_number f.refusal) ++ ascii "\n")
 
 abbrev pub role_named : ℕ → List ℕ
 role_named role = cond (eqb role originating) (ascii "originating\n") (ascii "answering\n")
@@ -65,8 +64,8 @@ unfoldable pub accepted_lines : Book → List ℕ
 accepted_lines b = header_lines b ++ entry_lines 0 (take b.n b.entries)
 
 abbrev pub says_of : Book → Verdict → List ℕ
-says_of b Accepted = accepted_lines b
-says_of b (Refused f) = refused_line f
+says_of b (Ok _) = accepted_lines b
+says_of b (Err f) = refused_line f
 
 -- of the lent bytes
 unfoldable pub book_says : List ℕ → List ℕ

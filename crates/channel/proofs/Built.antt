@@ -1,17 +1,13 @@
 -- The values of the bytes that carry leads or a nibble. Each by one computed test. Assumes nothing.
-use mathlib.Core.Path.{◌≡◌, ap}
+use mathlib.Core.Path.{◌≡◌}
 use mathlib.Core.Bool.{Bool, cond}
 use Prim.Native.Nat.{ℕ, ◌+◌, ◌*◌, ◌/◌, ◌%◌, ◌<◌}
 use lib.Dec.{eqb, eqb→eq}
 use Rattle.ground.specs.Digits.{val}
 use Rattle.ground.proofs.Each.{each_eq}
 use Rattle.ground.proofs.EachBool.{each5}
-use Rattle.channel.specs.Bytes.{laid, byte, sd_byte, dl_byte, dh_byte}
+use Rattle.channel.specs.Bytes.{laid, sd_byte, dl_byte, dh_byte}
 use Rattle.channel.specs.declared.byte.Leads.{Leads}
-
--- a byte is known by its value
-pub same_byte : {x y : ℕ} → x ≡ y → byte x ≡ byte y
-same_byte e = ap byte e
 
 pub dl_value : (v : ℕ) → v < 256 → dl_byte v ≡ 16 * (v % 16) + 5
 unfolding dl_byte laid val

@@ -5,6 +5,7 @@ use Prim.Native.Nat.{ℕ, ◌+◌, ◌*◌, ◌/◌, ◌%◌, ◌^◌, ◌<◌}
 use native.Mathlib.Nat.{mod-eq_of_lt}
 use native.Mathlib.Omega.{arith}
 use lib.Dec.{T, eqb, eqb→eq}
+use Rattle.std.specs.Prelude.{Some}
 use Rattle.ground.specs.Digits.{val}
 use Rattle.ground.specs.Lists.{is_among}
 use Rattle.ground.proofs.Test.{and_left, and_right, same_flag, flag_true}
@@ -14,7 +15,6 @@ use Rattle.channel.specs.Kinds.{kind_of}
 use Rattle.channel.specs.Forms.{units_of, unit_byte, unit_in, is_data, decoded, ArrivesAs, same_both_ways, word_of}
 use Rattle.channel.specs.declared.unit.Form.{Form}
 use Rattle.channel.specs.declared.unit.Form.TheVariants.{Six, SevenV1, SevenV2, Eight}
-use Rattle.channel.specs.declared.unit.Decoded.TheVariants.{Unit}
 use Rattle.channel.specs.declared.kind.Kind.TheVariants.{Dl, Dh}
 use Rattle.channel.proofs.ReadBack.{dl_read, dh_read, b8_ignored}
 
@@ -22,18 +22,18 @@ use Rattle.channel.proofs.ReadBack.{dl_read, dh_read, b8_ignored}
 abbrev gives : Form → ℕ → ℕ → Bool
 gives f u b = is_data f b && eqb (unit_in f b) u
 
-is_unit : (f : Form) (u b : ℕ) → T (gives f u b) → decoded f b ≡ Unit u
+is_unit : (f : Form) (u b : ℕ) → T (gives f u b) → decoded f b ≡ Some u
 unfolding decoded
 is_unit f u b t =
     rw (flag_true (is_data f b) (and_left (is_data f b) (eqb (unit_in f b) u) t))
-    (ap Unit (eqb→eq (unit_in f b) u (and_right (is_data f b) (eqb (unit_in f b) u) t)))
+    (ap Some (eqb→eq (unit_in f b) u (and_right (is_data f b) (eqb (unit_in f b) u) t)))
 
 -- a byte of which only B8 is not known
 halved : (f : Form) (u b : ℕ) → b / 2 ≡ unit_byte f u / 2 → b ≡ unit_byte f u / 2 * 2 + b % 2
 halved f u b e = omega arith
 
 module _ (f : Form) (t : T (up_to (λ u. up_to (λ x. gives f u (unit_byte f u / 2 * 2 + x)) 2) (units_of f))) where
-  either_b8 : (u b : ℕ) → u < units_of f → b / 2 ≡ unit_byte f u / 2 → decoded f b ≡ Unit u
+  either_b8 : (u b : ℕ) → u < units_of f → b / 2 ≡ unit_byte f u / 2 → decoded f b ≡ Some u
   either_b8 u b h e =
       ap (decoded f) (halved f u b e)
       ∙ is_unit f u (unit_byte f u / 2 * 2 + b % 2)
@@ -41,23 +41,23 @@ module _ (f : Form) (t : T (up_to (λ u. up_to (λ x. gives f u (unit_byte f u /
       (each (λ u. up_to (λ x. gives f u (unit_byte f u / 2 * 2 + x)) 2) (units_of f) t u h) (b % 2) (omega arith))
 
 -- each form by its own computed test
-six_back : (u b : ℕ) → u < units_of Six → ArrivesAs Six (unit_byte Six u) b → decoded Six b ≡ Unit u
+six_back : (u b : ℕ) → u < units_of Six → ArrivesAs Six (unit_byte Six u) b → decoded Six b ≡ Some u
 unfolding unit_byte unit_in laid val
 six_back u b h e = either_b8 Six tt u b h e
 
-seven_v1_back : (u b : ℕ) → u < units_of SevenV1 → ArrivesAs SevenV1 (unit_byte SevenV1 u) b → decoded SevenV1 b ≡ Unit u
+seven_v1_back : (u b : ℕ) → u < units_of SevenV1 → ArrivesAs SevenV1 (unit_byte SevenV1 u) b → decoded SevenV1 b ≡ Some u
 unfolding unit_byte unit_in laid val
 seven_v1_back u b h e = either_b8 SevenV1 tt u b h e
 
-seven_v2_back : (u b : ℕ) → u < units_of SevenV2 → ArrivesAs SevenV2 (unit_byte SevenV2 u) b → decoded SevenV2 b ≡ Unit u
+seven_v2_back : (u b : ℕ) → u < units_of SevenV2 → ArrivesAs SevenV2 (unit_byte SevenV2 u) b → decoded SevenV2 b ≡ Some u
 unfolding unit_byte unit_in laid val
 seven_v2_back u b h e = either_b8 SevenV2 tt u b h e
 
-eight_back : (u b : ℕ) → u < units_of Eight → ArrivesAs Eight (unit_byte Eight u) b → decoded Eight b ≡ Unit u
+eight_back : (u b : ℕ) → u < units_of Eight → ArrivesAs Eight (unit_byte Eight u) b → decoded Eight b ≡ Some u
 unfolding unit_byte unit_in laid val
 eight_back u b h e = ap (decoded Eight) e ∙ is_unit Eight u (unit_byte Eight u) (each (λ u. gives Eight u (unit_byte Eight u)) 256 tt u h)
 
-pub round_trip : (f : Form) (u b : ℕ) → u < units_of f → ArrivesAs f (unit_byte f u) b → decoded f b ≡ Unit u
+pub round_trip : (f : Form) (u b : ℕ) → u < units_of f → ArrivesAs f (unit_byte f u) b → decoded f b ≡ Some u
 round_trip Six u b h e = six_back u b h e
 round_trip SevenV1 u b h e = seven_v1_back u b h e
 round_trip SevenV2 u b h e = seven_v2_back u b h e

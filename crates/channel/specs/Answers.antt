@@ -1,20 +1,14 @@
 -- The answers on a byte, on a unit or word and on two masks, in numbers. Assumes nothing.
-use Rattle.std.specs.Prelude.{cond, List, [], ◌∷◌, ℕ, ◌+◌, eqb, leb}
+use Rattle.std.specs.Prelude.{cond, Option, Some, None, Result, Ok, Err, List, [], ◌∷◌, ℕ, ◌+◌, eqb, leb}
 use Rattle.channel.specs.Bytes.{B, bit_of, dl_byte, dh_byte}
 use Rattle.channel.specs.Kinds.{is_dl, is_dh, is_sd, nibble_in, kind_number}
 use Rattle.channel.specs.Forms.{fits, unit_byte, word_fits, is_data, unit_in}
 use Rattle.channel.specs.Versions.{highest}
+use Rattle.channel.specs.declared.byte.ChannelByte.{ChannelByte}
 use Rattle.channel.specs.declared.kind.Kind.{Kind}
 use Rattle.channel.specs.declared.kind.Kind.TheVariants.{Sgvi, Sgp, Sgr, Dl, Dh, Sd, Other}
 use Rattle.channel.specs.declared.unit.Form.{Form}
-use Rattle.channel.specs.declared.unit.Encoded.{Encoded}
-use Rattle.channel.specs.declared.unit.Encoded.TheVariants as encode
-use Rattle.channel.specs.declared.unit.Decoded.{Decoded}
-use Rattle.channel.specs.declared.unit.Decoded.TheVariants.{Unit, NoData}
-use Rattle.channel.specs.declared.unit.EncodedWord.{EncodedWord}
-use Rattle.channel.specs.declared.unit.EncodedWord.TheVariants as word
-use Rattle.channel.specs.declared.version.Shared.{Shared}
-use Rattle.channel.specs.declared.version.Shared.TheVariants.{Version, Nothing}
+use Rattle.channel.specs.declared.unit.OutOfRange.{OutOfRange}
 
 -- a kind in numbers: which it is, as the table numbers them (0 for all the rest), and what it carries; an Sd's bits as sent, s3 first
 abbrev pub says_kind : Kind → List ℕ
@@ -35,17 +29,17 @@ kind_in_numbers b =
     (cond (leb (kind_number b) 10) (kind_number b ∷ []) (0 ∷ []))))
 
 -- the answers in numbers: 0 and the bytes, or refusal 12; the unit, or nothing
-abbrev pub says_encoded : Encoded → List ℕ
-says_encoded (encode.Byte b) = 0 ∷ b.0 ∷ []
-says_encoded encode.OutOfRange = 12 ∷ []
+abbrev pub says_encoded : Result ChannelByte OutOfRange → List ℕ
+says_encoded (Ok b) = 0 ∷ b.0 ∷ []
+says_encoded (Err out_of_range) = 12 ∷ []
 
-abbrev pub says_encoded_word : EncodedWord → List ℕ
-says_encoded_word (word.Pair low high) = 0 ∷ low.0 ∷ high.0 ∷ []
-says_encoded_word word.OutOfRange = 12 ∷ []
+abbrev pub says_encoded_word : Result (ChannelByte × ChannelByte) OutOfRange → List ℕ
+says_encoded_word (Ok (low, high)) = 0 ∷ low.0 ∷ high.0 ∷ []
+says_encoded_word (Err out_of_range) = 12 ∷ []
 
-abbrev pub says_decoded : Decoded → List ℕ
-says_decoded (Unit u) = u ∷ []
-says_decoded NoData = []
+abbrev pub says_decoded : Option ℕ → List ℕ
+says_decoded (Some u) = u ∷ []
+says_decoded None = []
 
 -- what they have to say
 abbrev pub encoded_in_numbers : Form → ℕ → List ℕ
@@ -58,9 +52,9 @@ abbrev pub decoded_in_numbers : Form → ℕ → List ℕ
 decoded_in_numbers f b = cond (is_data f b) (unit_in f b ∷ []) []
 
 -- the answer in numbers: 0 and the version, or refusal 21
-abbrev pub says_shared : Shared → List ℕ
-says_shared (Version v) = 0 ∷ v ∷ []
-says_shared Nothing = 21 ∷ []
+abbrev pub says_shared : Option ℕ → List ℕ
+says_shared (Some v) = 0 ∷ v ∷ []
+says_shared None = 21 ∷ []
 
 -- what it has to say
 abbrev pub shared_in_numbers : ℕ → ℕ → List ℕ

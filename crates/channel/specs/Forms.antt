@@ -1,15 +1,11 @@
 -- Forms of data: units on the channel. d0 is the least bit; B1 goes first. Assumes nothing.
-use Rattle.std.specs.Prelude.{◌≡◌, Bool, true, cond, List, [], ◌∷◌, ℕ, ◌+◌, ◌*◌, ◌/◌, ◌%◌, ◌^◌, eqb, ltb}
+use Rattle.std.specs.Prelude.{◌≡◌, Bool, true, cond, Option, Some, None, Result, Ok, Err, List, [], ◌∷◌, ℕ, ◌+◌, ◌*◌, ◌/◌, ◌%◌, ◌^◌, eqb, ltb}
 use Rattle.ground.specs.Digits.{val, bit}
 use Rattle.channel.specs.Bytes.{laid, B, byte, dl_byte, dh_byte}
+use Rattle.channel.specs.declared.byte.ChannelByte.{ChannelByte}
 use Rattle.channel.specs.declared.unit.Form.{Form}
 use Rattle.channel.specs.declared.unit.Form.TheVariants.{Six, SevenV1, SevenV2, Eight}
-use Rattle.channel.specs.declared.unit.Encoded.{Encoded}
-use Rattle.channel.specs.declared.unit.Encoded.TheVariants as encode
-use Rattle.channel.specs.declared.unit.Decoded.{Decoded}
-use Rattle.channel.specs.declared.unit.Decoded.TheVariants.{Unit, NoData}
-use Rattle.channel.specs.declared.unit.EncodedWord.{EncodedWord}
-use Rattle.channel.specs.declared.unit.EncodedWord.TheVariants as word
+use Rattle.channel.specs.declared.unit.OutOfRange.{OutOfRange}
 
 -- a form has the units 0..63, 0..127 or 0..255
 abbrev pub units_of : Form → ℕ
@@ -41,11 +37,11 @@ is_data SevenV1 b = true
 is_data SevenV2 b = true
 is_data Eight b = true
 
-unfoldable pub encoded : Form → ℕ → Encoded
-encoded f u = cond (fits f u) (encode.Byte (byte (unit_byte f u))) encode.OutOfRange
+unfoldable pub encoded : Form → ℕ → Result ChannelByte OutOfRange
+encoded f u = cond (fits f u) (Ok (byte (unit_byte f u))) (Err (record {}))
 
-unfoldable pub decoded : Form → ℕ → Decoded
-decoded f b = cond (is_data f b) (Unit (unit_in f b)) NoData
+unfoldable pub decoded : Form → ℕ → Option ℕ
+decoded f b = cond (is_data f b) (Some (unit_in f b)) None
 
 -- what may arrive for a unit's byte: B8 may change except in form 8
 abbrev pub ArrivesAs : Form → ℕ → ℕ → Type 0
@@ -62,8 +58,8 @@ same_both_ways = 0 ∷ 8 ∷ 20 ∷ 28 ∷ 34 ∷ 42 ∷ 54 ∷ 62 ∷ 65 ∷ 73
 unfoldable pub word_fits : ℕ → ℕ → Bool
 word_fits w v = ltb v (2 ^ w)
 
-unfoldable pub encoded_word : ℕ → ℕ → EncodedWord
-encoded_word w v = cond (word_fits w v) (word.Pair (byte (dl_byte v)) (byte (dh_byte v))) word.OutOfRange
+unfoldable pub encoded_word : ℕ → ℕ → Result (ChannelByte × ChannelByte) OutOfRange
+encoded_word w v = cond (word_fits w v) (Ok (byte (dl_byte v), byte (dh_byte v))) (Err (record {}))
 
 unfoldable pub word_of : ℕ → ℕ → ℕ → ℕ
 word_of w low high = (low % 16 + high % 16 * 16) % 2 ^ w

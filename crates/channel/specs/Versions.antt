@@ -1,8 +1,6 @@
 -- Both masks are ANDed; the highest set bit wins, bit 0 being version 1. Nothing set: no version, 21. Assumes nothing.
-use Rattle.std.specs.Prelude.{Bool, cond, ◌&&◌, ℕ, zero, suc, eqb}
+use Rattle.std.specs.Prelude.{Bool, cond, ◌&&◌, Option, Some, None, ℕ, zero, suc, eqb}
 use Rattle.ground.specs.Digits.{bit}
-use Rattle.channel.specs.declared.version.Shared.{Shared}
-use Rattle.channel.specs.declared.version.Shared.TheVariants.{Version, Nothing}
 
 -- the bit is set in both
 abbrev pub both_have : ℕ → ℕ → ℕ → Bool
@@ -16,5 +14,5 @@ highest_up_to (suc i) a b = cond (both_have i a b) (suc i) (highest_up_to i a b)
 unfoldable pub highest : ℕ → ℕ → ℕ
 highest a b = highest_up_to 8 a b
 
-unfoldable pub shared : ℕ → ℕ → Shared
-shared a b = cond (eqb (highest a b) 0) Nothing (Version (highest a b))
+unfoldable pub shared : ℕ → ℕ → Option ℕ
+shared a b = cond (eqb (highest a b) 0) None (Some (highest a b))

@@ -1,13 +1,13 @@
 // The channel byte: one fixed byte for each signalling code, and the bytes that carry leads or a nibble.
-ghost use Rattle.std.specs.Prelude.{◌≡◌, cond, ◌≤◌};
+ghost use Rattle.std.specs.Prelude.{◌≡◌};
 ghost use Rattle.channel.specs.Bytes.{byte, signalling, sd_byte, dl_byte, dh_byte};
 
 // A byte as it goes on the channel. B1 goes first and is the top bit.
-#[derive(Clone, Copy)]
+#[derive(Clone, Copy, PartialEq, Eq, Debug)]
 pub struct ChannelByte(pub u8);
 
 // The leads s0 to s3.
-#[derive(Clone, Copy)]
+#[derive(Clone, Copy, PartialEq, Eq, Debug)]
 pub struct Leads {
     pub s0: bool,
     pub s1: bool,
@@ -39,7 +39,8 @@ impl ChannelByte {
     pub const SDIDLE: ChannelByte = ChannelByte(0x43);
 
     // The signalling code that the table of kinds numbers so: 4 Sgvi, 5 to 9 Sgp0 to Sgp4, 10 Sgr, 11 Sgss, 12 Sgidle, 13 Sgdis;
-    // Sdidle for any other number.
+    // Sdidle for any other number. A number, as the table has it, since any has its byte.
+    #[tactic(auto, unfolding(crate::specs::Bytes::signalling))]
     pub fn signalling(number: u8) -> ChannelByte
         ensures { result ≡ byte (signalling number) }
     {
@@ -59,20 +60,22 @@ impl ChannelByte {
     }
 
     // Sd: s3 s2 s1 s0 BK 0 1 1.
+    #[tactic(auto, using(crate::proofs::Built::sd_value))]
     pub fn sd(leads: Leads, bk: bool) -> ChannelByte
         ensures { result ≡ byte (sd_byte leads bk) }
     {
         ChannelByte(
-            weight(leads.s3, 128)
-                + weight(leads.s2, 64)
-                + weight(leads.s1, 32)
-                + weight(leads.s0, 16)
-                + weight(bk, 8)
+            u8::from(leads.s3) * 128
+                + u8::from(leads.s2) * 64
+                + u8::from(leads.s1) * 32
+                + u8::from(leads.s0) * 16
+                + u8::from(bk) * 8
                 + 3,
         )
     }
 
     // DL: bits 3 to 0 of a value, then 0101.
+    #[tactic(auto, using(crate::proofs::Built::dl_value))]
     pub fn dl(value: u8) -> ChannelByte
         ensures { result ≡ byte (dl_byte value) }
     {
@@ -80,16 +83,10 @@ impl ChannelByte {
     }
 
     // DH: bits 7 to 4 of a value, then 1101.
+    #[tactic(auto, using(crate::proofs::Built::dh_value))]
     pub fn dh(value: u8) -> ChannelByte
         ensures { result ≡ byte (dh_byte value) }
     {
         ChannelByte(value / 16 * 16 + 13)
     }
-}
-
-// What a bit adds to its byte.
-fn weight(on: bool, value: u8) -> u8
-    ensures { (result ≡ cond on value 0) × (result ≤ value) }
-{
-    if on { value } else { 0 }
 }

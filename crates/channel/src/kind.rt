@@ -1,13 +1,13 @@
 // The kind of a received byte during the exchange.
 ghost use Rattle.std.specs.Prelude.{◌≡◌};
-ghost use Rattle.channel.specs.Kinds.{kind_number, leads_in, kind_of};
+ghost use Rattle.channel.specs.Kinds.{kind_number, leads_in, kind_from, kind_of};
 ghost use Rattle.channel.specs.Answers.{says_kind, kind_in_numbers};
 
 use crate::byte::{ChannelByte, Leads};
 use crate::kind_table::row;
 
 // What a received byte is during the exchange. B8 is ignored.
-#[derive(Clone, Copy)]
+#[derive(Clone, Copy, PartialEq, Eq, Debug)]
 pub enum Kind {
     Sgvi,
     // Sgp0 to Sgp4
@@ -26,10 +26,11 @@ fn kind_number(b: u8) -> u8
     ensures { result ≡ kind_number b }
 {
     let row = row(b / 16);
-    row[(b % 16) as usize]
+    row[usize::from(b % 16)]
 }
 
 // The leads that an Sd byte carries.
+#[tactic(auto, unfolding(crate::specs::Kinds::leads_in))]
 fn leads_in(b: u8) -> Leads
     ensures { result ≡ leads_in b }
 {
@@ -41,34 +42,28 @@ fn leads_in(b: u8) -> Leads
     }
 }
 
+// The kind of a number, with what the byte carries.
+#[tactic(auto, using(crate::proofs::KindTable::nibble_is), unfolding(crate::specs::Kinds::kind_from))]
+fn kind_from(n: u8, b: u8) -> Kind
+    ensures { result ≡ kind_from n b }
+{
+    match n {
+        1 => Kind::Dl(b / 16),
+        2 => Kind::Dh(b / 16),
+        3 => Kind::Sd(leads_in(b), b / 8 % 2 == 1),
+        4 => Kind::Sgvi,
+        5..=9 => Kind::Sgp(n - 5),
+        10 => Kind::Sgr,
+        _ => Kind::Other,
+    }
+}
+
 impl ChannelByte {
+    #[tactic(auto, using(crate::proofs::Said::kind_said), unfolding(crate::specs::Kinds::kind_of))]
     pub fn kind(self) -> Kind
         ensures value { result ≡ kind_of self.0 }
         ensures says { says_kind result ≡ kind_in_numbers self.0 }
     {
-        let b = self.0;
-        let n = kind_number(b);
-        if n == 1 {
-            return Kind::Dl(b / 16);
-        }
-        if n == 2 {
-            return Kind::Dh(b / 16);
-        }
-        if n == 3 {
-            return Kind::Sd(leads_in(b), b / 8 % 2 == 1);
-        }
-        if n == 4 {
-            return Kind::Sgvi;
-        }
-        if n < 5 {
-            return Kind::Other;
-        }
-        if n <= 9 {
-            return Kind::Sgp(n - 5);
-        }
-        if n == 10 {
-            return Kind::Sgr;
-        }
-        Kind::Other
+        kind_from(kind_number(self.0), self.0)
     }
 }

@@ -4,6 +4,7 @@ ghost use Rattle.channel.specs.Kinds.{kind_number};
 
 // A row for each B1 to B4, in it an entry for each B5 to B8: 0 unassigned, 1 DL, 2 DH, 3 Sd, 4 Sgvi, 5 to 9 Sgp0 to Sgp4, 10 Sgr, 11 Sgss,
 // 12 Sgidle, 13 Sgdis.
+// Numbers, not an enum: document 01 has each byte's kind as a number, and `kind_number` says which; `Kind` is what is made of it.
 const KINDS: [[u8; 16]; 16] = [
     [0, 0, 3, 3, 1, 1, 5, 5, 0, 0, 3, 3, 2, 2, 0, 0], // 06 07 Sgp0
     [0, 0, 3, 3, 1, 1, 6, 6, 0, 0, 3, 3, 2, 2, 0, 0], // 16 17 Sgp1

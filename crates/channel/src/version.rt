@@ -1,43 +1,24 @@
 // The version that two masks share.
-ghost use Rattle.std.specs.Prelude.{◌≡◌, cond, ◌≤◌, leb};
+ghost use Rattle.std.specs.Prelude.{◌≡◌};
 ghost use Rattle.channel.specs.Versions.{shared, highest};
 ghost use Rattle.channel.specs.Answers.{says_shared, shared_in_numbers};
 
-#[derive(Clone, Copy)]
-pub enum Shared {
-    Version(u8),
-    Nothing,
-}
-
-// 1 where the mask reaches a bit's value, else 0.
-fn reaches(mask: u8, value: u8) -> u8
-    ensures { (result ≡ cond (leb value mask) 1 0) × (result ≤ 1) }
-{
-    if value <= mask { 1 } else { 0 }
-}
-
 // The highest set bit, counted from 1; 0 where none is set.
+#[tactic(auto, using(crate::proofs::HighestBit::leading_is))]
 fn highest(mask: u8) -> u8
     ensures { result ≡ highest mask mask }
 {
-    reaches(mask, 1)
-        + reaches(mask, 2)
-        + reaches(mask, 4)
-        + reaches(mask, 8)
-        + reaches(mask, 16)
-        + reaches(mask, 32)
-        + reaches(mask, 64)
-        + reaches(mask, 128)
+    (u8::BITS - mask.leading_zeros()) as u8
 }
 
-// Both masks are ANDed; the highest set bit wins, bit 0 being version 1.
-pub fn shared_version(a: u8, b: u8) -> Shared
+// Both masks are ANDed; the highest set bit wins, bit 0 being version 1. None where none is set: no version, 21.
+#[tactic(auto, using(crate::proofs::HighestBit::highest_and), unfolding(crate::specs::Versions::shared))]
+pub fn shared_version(a: u8, b: u8) -> Option<u8>
     ensures value { result ≡ shared a b }
     ensures says { says_shared result ≡ shared_in_numbers a b }
 {
-    let version = highest(a & b);
-    if version == 0 {
-        return Shared::Nothing;
+    match highest(a & b) {
+        0 => None,
+        version => Some(version),
     }
-    Shared::Version(version)
 }

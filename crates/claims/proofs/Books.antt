@@ -5,7 +5,7 @@ use mathlib.Core.List.{List, [], ◌∷◌, ◌++◌}
 use Prim.Native.Nat.{ℕ}
 use lib.Dec.{eqb, ltb}
 use lib.ListN.{length}
-use borrow.Author.Tests.{ne_eqb}
+use Rattle.std.specs.Prelude.{Ok, Err}
 use Rattle.ground.specs.Lists.{is_among}
 use Rattle.ground.proofs.Test.{either_way}
 use Rattle.book.specs.declared.Entry.{Entry}
@@ -13,11 +13,11 @@ use Rattle.book.specs.declared.Book.{Book}
 use Rattle.book.specs.declared.Fault.{Fault}
 use Rattle.book.specs.declared.BookRead.{BookRead}
 use Rattle.book.specs.Book.{book_version, answering, least_header, entry_start, version_in, book_of}
-use Rattle.book.specs.Refusals.{or_else, least_limit, is_mark, start_fault, is_mask, wrong_count, values_fault, length_fault}
+use Rattle.book.specs.Refusals.{Verdict, or_else, least_limit, is_mark, start_fault, is_mask, wrong_count, values_fault, length_fault}
 use Rattle.book.specs.Refusals.{is_form, is_width, is_barred, seen_in, entry_fault, each_fault, entries_fault, book_fault, book_no, book_offset}
 use Rattle.book.specs.Reading.{number_of, offset_of, refuses, read_book, has_entry, entry_part}
 use Rattle.book.specs.Kept.{book_ok}
-use Rattle.book.proofs.Reply.{read_number, read_offset, read_accepted}
+use Rattle.book.proofs.Reply.{read_number, read_offset, read_accepted, read_refused}
 use Rattle.book.proofs.Offending.{offset_within, refused_alike}
 use Rattle.book.proofs.RoundTrip.{read_passes, passes_read, read_written, part_is_entry}
 use Rattle.protocol.specs.Ranges.{well_formed}
@@ -27,8 +27,8 @@ use Rattle.claims.specs.Books.{book_numbers, BookAnswered, BooksUndone}
 
 -- Each check has one of the numbers.
 
-abbrev Numbered : Fault → Type 0
-Numbered f = is_among f.number (0 ∷ book_numbers) ≡ true
+abbrev Numbered : Verdict → Type 0
+Numbered v = is_among (number_of v) (0 ∷ book_numbers) ≡ true
 
 start_numbered : (s : List ℕ) → Numbered (start_fault s)
 unfolding start_fault
@@ -60,8 +60,9 @@ entry_numbered mask earlier start e =
     (either_way Numbered (seen_in earlier e) refl refl)))
 
 -- of two checks one after the other
-else_numbered : (a b : Fault) → Numbered a → Numbered b → Numbered (or_else a b)
-else_numbered a b p q = either_way Numbered (eqb a.number 0) q p
+else_numbered : (a b : Verdict) → Numbered a → Numbered b → Numbered (or_else a b)
+else_numbered (Ok _) b p q = q
+else_numbered (Err f) b p q = p
 
 each_numbered : (version mask : ℕ) (earlier es : List Entry) → Numbered (each_fault version mask earlier es)
 unfolding each_fault
@@ -83,9 +84,12 @@ book_numbered s =
 -- A refused book, and an accepted one.
 
 module _ (s : List ℕ) where
-  read_refused : (book_no s ≡ 0 → ⊥) → read_book s ≡ refuses (book_fault s)
-  unfolding read_book
-  read_refused n = rw (ne_eqb (book_no s) 0 n) refl
+  refused : (book_no s ≡ 0 → ⊥) → (f : Fault) × ((book_fault s ≡ Err f) × (read_book s ≡ refuses f))
+  refused n = by (book_fault s) refl
+    where
+      by : (v : Verdict) → book_fault s ≡ v → (f : Fault) × ((book_fault s ≡ Err f) × (read_book s ≡ refuses f))
+      by (Ok _) e = absurd (n (ap number_of e))
+      by (Err f) e = (f, (e, read_refused s f e))
 
   -- the book of zeros passes no check
   zeros_refused : (f : Fault) → well_formed (start_of (refuses f)).state ≡ false
@@ -116,8 +120,8 @@ book_answered s =
       offset = told_offset s;
       within = offset_within s;
       alike = refused_alike s;
-      refused = read_refused s;
-      no_call = λ n. ap (λ (r : BookRead). well_formed (start_of r).state) (read_refused s n) ∙ zeros_refused s (book_fault s);
+      refused = refused s;
+      no_call = λ n. let r = refused s n in ap (λ (r : BookRead). well_formed (start_of r).state) r.1.1 ∙ zeros_refused s r.0;
       accepted = read_accepted s;
       passes = λ e. read_passes s (book_of s) (read_accepted s e);
       starts = λ e. starts_kept s e ∙ started_kept (book_of s) (read_passes s (book_of s) (read_accepted s e));

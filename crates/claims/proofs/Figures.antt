@@ -31,7 +31,7 @@ use Rattle.packing.proofs.Trips.{bits_kept_back}
 use Rattle.book.specs.declared.Entry.{Entry}
 use Rattle.book.specs.declared.Book.{Book}
 use Rattle.book.specs.Written.{entries_bytes, book_bytes}
-use Rattle.book.specs.Reading.{accepts, read_book}
+use Rattle.book.specs.Reading.{number_of, accepts, read_book}
 use Rattle.book.specs.Refusals.{is_mask, values_fault, entries_fault}
 use Rattle.book.specs.Kept.{is_padded, book_ok}
 use Rattle.book.proofs.Samples.{BookFigures, book_figures}
@@ -42,7 +42,7 @@ use Rattle.text.specs.Numerals.{decimal_of}
 use Rattle.text.proofs.Figures.{read_from, Figures, figures, read_back}
 use Rattle.protocol.specs.Answers.{says_outcome, says_reply}
 use Rattle.protocol.specs.declared.Outcome.{Outcome}
-use Rattle.protocol.specs.declared.Reply.{Reply}
+use Rattle.protocol.specs.Slot.{Reply}
 use Rattle.protocol.proofs.Figures.Exchanging.{ExchangeFigures, exchange_figures}
 use Rattle.protocol.proofs.Figures.Opening.{OpenFigures, open_figures}
 use Rattle.protocol.proofs.Figures.LeadsAhead.{LeadsFigures, leads_figures}
@@ -120,9 +120,9 @@ pub record BookHeld : Type 0 where
   -- told as document 01 told them, the numbers are its own, and the check of a kept book passes what it passed there, but that the entries
   -- under mask 3 are judged as it judged those under mask 2; and it refuses nothing that passed there
   pub numbers : (version : ℕ) (b : Book) → is_mask b.mask ≡ true
-      → in01 (entries_fault version b).number ≡ each_no01 (mask01 b.mask) [] (take b.n b.entries)
+      → in01 (number_of (entries_fault version b)) ≡ each_no01 (mask01 b.mask) [] (take b.n b.entries)
   pub kept : (b : Book) → book_ok b
-      ≡ (eqb (values_fault b).number 0 && eqb (each_no01 (mask01 b.mask) [] (take b.n b.entries)) 0 && is_padded b.entries b.n)
+      ≡ (eqb (number_of (values_fault b)) 0 && eqb (each_no01 (mask01 b.mask) [] (take b.n b.entries)) 0 && is_padded b.entries b.n)
   pub still : (mask : ℕ) (earlier es : List Entry) → each_no01 mask earlier es ≡ 0 → each_no01 (mask01 mask) earlier es ≡ 0
   pub bytes : (b : Book) → book_ok b ≡ true → b.limit < 2 ^ 16 → all_below 256 (entries_bytes b.entries) ≡ true
       → all_below 256 (book_bytes b) ≡ true

@@ -7,11 +7,10 @@ use Rattle.book.specs.declared.Book.{Book}
 use Rattle.book.specs.Kept.{book_ok}
 use Rattle.channel.specs.Bytes.{byte}
 use Rattle.protocol.specs.Sent.{byte_sent}
-use Rattle.protocol.specs.Slot.{started, Step, offer_allowed, slot_of}
+use Rattle.protocol.specs.Slot.{started, Step, offer_allowed, slot_of, passed_with}
 use Rattle.protocol.specs.Call.{end_at, sent_at, delivered_at, taken_at, stands_at}
 use Rattle.protocol.specs.declared.Endpoint.{Endpoint}
 use Rattle.protocol.specs.declared.Drive.{Drive}
-use Rattle.protocol.specs.declared.Reply.TheVariants.{Passed}
 use Rattle.protocol.specs.declared.SlotAnswer.{SlotAnswer}
 use Rattle.protocol.proofs.Calls.SlotPasses.{slot_passes, slot_refused, reply_passes, step_refused}
 use Rattle.protocol.proofs.Kept.StateKept.{slot_kept, call_kept}
@@ -35,7 +34,7 @@ answers_all e heard g =
 module _ (b : Book) (ok : book_ok b ≡ true) (heard : ℕ → ℕ) (given : ℕ → Drive) where
   slot_replies : (t : ℕ) → offer_allowed (end_at (started b) heard given t) (given t) (end_at (started b) heard given t).phase ≡ true
       → (slot_of (end_at (started b) heard given t) (heard t) (given t)).reply
-      ≡ Passed (byte (byte_sent (sent_at (started b) heard given t))) (delivered_at (started b) heard given t)
+      ≡ passed_with (byte (byte_sent (sent_at (started b) heard given t))) (delivered_at (started b) heard given t)
       (taken_at (started b) heard given t) (stands_at (started b) heard given (suc t))
   unfolding end_at
   slot_replies t o = reply_passes (end_at (started b) heard given t) (heard t) (given t) (call_kept b ok heard given t) o

@@ -4,13 +4,13 @@ use mathlib.Core.Bool.{true, false}
 use mathlib.Core.List.{List, ◌∷◌}
 use Prim.Native.Nat.{ℕ}
 use lib.ListN.{length}
+use Rattle.std.specs.Prelude.{Ok, Err}
 use Rattle.ground.specs.Lists.{is_among}
 use Rattle.ground.proofs.Test.{either_way}
 use Rattle.packing.specs.FormsOfData.{units_for, octets_in, packed, unpacked}
-use Rattle.packing.specs.NumbersOfRefusal.{number_of, not_packed, out_of_range, not_whole, no_room, pack_refusal, unpack_refusal}
+use Rattle.packing.specs.NumbersOfRefusal.{Reply, number_of, not_packed, out_of_range, not_whole, no_room, pack_refusal, unpack_refusal}
 use Rattle.packing.specs.NumbersOfRefusal.{put_from, Answer, Packs, Unpacks}
-use Rattle.packing.specs.declared.Reply.{Reply}
-use Rattle.packing.specs.declared.Reply.TheVariants.{Wrote, FormNotPacked, UnitOutOfRange, NotWholeOctets, NoRoom}
+use Rattle.packing.specs.declared.Refusal.TheVariants.{FormNotPacked, UnitOutOfRange, NotWholeOctets, NoRoom}
 use Rattle.packing.proofs.OneReply.{one_answer}
 use Rattle.packing.proofs.Trips.{unpack_packed, unpack_takes, pack_unpacked}
 use Rattle.claims.specs.Packing.{pack_numbers, unpack_numbers, Answers, PackingUndone}
@@ -27,19 +27,19 @@ module _ (numbers xs out : List ℕ) (at : ℕ) where
 
   wrote : Has 0
   wrote =
-      answer 0 (Wrote (length xs)) (put_from at xs out) (record { number = refl; count = refl; buffer = refl }) refl (λ n. absurd (n refl))
+      answer 0 (Ok (length xs)) (put_from at xs out) (record { number = refl; count = refl; buffer = refl }) refl (λ n. absurd (n refl))
 
   refused_15 : is_among 15 (0 ∷ numbers) ≡ true → Has 15
-  refused_15 e = answer 15 FormNotPacked out (record { number = refl; count = refl; buffer = refl }) e (λ n. refl)
+  refused_15 e = answer 15 (Err FormNotPacked) out (record { number = refl; count = refl; buffer = refl }) e (λ n. refl)
 
   refused_14 : is_among 14 (0 ∷ numbers) ≡ true → Has 14
-  refused_14 e = answer 14 NoRoom out (record { number = refl; count = refl; buffer = refl }) e (λ n. refl)
+  refused_14 e = answer 14 (Err NoRoom) out (record { number = refl; count = refl; buffer = refl }) e (λ n. refl)
 
   refused_12 : is_among 12 (0 ∷ numbers) ≡ true → Has 12
-  refused_12 e = answer 12 UnitOutOfRange out (record { number = refl; count = refl; buffer = refl }) e (λ n. refl)
+  refused_12 e = answer 12 (Err UnitOutOfRange) out (record { number = refl; count = refl; buffer = refl }) e (λ n. refl)
 
   refused_16 : is_among 16 (0 ∷ numbers) ≡ true → Has 16
-  refused_16 e = answer 16 NotWholeOctets out (record { number = refl; count = refl; buffer = refl }) e (λ n. refl)
+  refused_16 e = answer 16 (Err NotWholeOctets) out (record { number = refl; count = refl; buffer = refl }) e (λ n. refl)
 
 pub pack_answered : (k : ℕ) (s out : List ℕ) (at : ℕ) → Answers pack_numbers out (Packs k s out at)
 unfolding pack_refusal

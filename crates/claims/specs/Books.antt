@@ -1,8 +1,9 @@
 -- Any bytes as a book, and a book's bytes read and written. Assumes nothing.
-use Rattle.std.specs.Prelude.{◌≡◌, true, false, List, [], ◌∷◌, ℕ, ◌≤◌, ◌<◌, length, get_or, take}
+use Rattle.std.specs.Prelude.{◌≡◌, true, false, List, [], ◌∷◌, ℕ, ◌≤◌, ◌<◌, length, get_or, take, Err}
 use Rattle.ground.specs.Digits.{all_below}
 use Rattle.ground.specs.Lists.{is_among}
 use Rattle.book.specs.declared.Book.{Book}
+use Rattle.book.specs.declared.Fault.{Fault}
 use Rattle.book.specs.Book.{no_entry, book_of}
 use Rattle.book.specs.Written.{entry_bytes, book_bytes}
 use Rattle.book.specs.Refusals.{book_fault, book_no, book_offset}
@@ -27,7 +28,7 @@ pub record BookAnswered (s : List ℕ) : Type 0 where
   pub alike : (t : List ℕ) → (book_no s ≡ 0 → ⊥) → length t ≡ length s
       → take (fault_end (book_fault s)) t ≡ take (fault_end (book_fault s)) s → book_fault t ≡ book_fault s
   -- a refusal yields the number and the offset alone, and no call: 13 refuses the state beside it
-  pub refused : (book_no s ≡ 0 → ⊥) → read_book s ≡ refuses (book_fault s)
+  pub refused : (book_no s ≡ 0 → ⊥) → (f : Fault) × ((book_fault s ≡ Err f) × (read_book s ≡ refuses f))
   pub no_call : (book_no s ≡ 0 → ⊥) → well_formed (start_of (read_book s)).state ≡ false
   -- every other book is accepted, passes the check of a kept book, and starts an end that is in its ranges
   pub accepted : book_no s ≡ 0 → read_book s ≡ accepts (book_of s)

@@ -1,37 +1,35 @@
 -- Any stored state in any slot, and any call from an accepted book. Assumes nothing.
-use Rattle.std.specs.Prelude.{◌≡◌, true, false, ◌⊎◌, ℕ, suc, ◌≤◌}
+use Rattle.std.specs.Prelude.{◌≡◌, true, false, ◌⊎◌, ℕ, suc, ◌≤◌, None, Err}
 use Rattle.book.specs.declared.Entry.{Entry}
 use Rattle.book.specs.declared.Book.{Book}
 use Rattle.channel.specs.Bytes.{byte, sdidle}
 use Rattle.protocol.specs.Sent.{Silence, Alone, byte_sent}
 use Rattle.protocol.specs.Ranges.{well_formed}
-use Rattle.protocol.specs.Slot.{started, step_of, offer_allowed, passes, refuses, slot_of}
+use Rattle.protocol.specs.Slot.{started, step_of, offer_allowed, passes, refuses, slot_of, passed_with}
 use Rattle.protocol.specs.Call.{end_at, sent_at, delivered_at, taken_at, stands_at}
 use Rattle.protocol.specs.Concluding.{LeavesIn, StaysOpen}
 use Rattle.protocol.specs.Votes.{Votes}
 use Rattle.protocol.specs.declared.Line.{Line}
 use Rattle.protocol.specs.declared.Phase.TheVariants as phase
-use Rattle.protocol.specs.declared.Delivered.TheVariants.{Nothing}
 use Rattle.protocol.specs.declared.Endpoint.{Endpoint}
 use Rattle.protocol.specs.declared.Drive.{Drive}
 use Rattle.protocol.specs.declared.Signals.{Signals}
 use Rattle.protocol.specs.declared.Outcome.TheVariants.{Open, Refused}
-use Rattle.protocol.specs.declared.Reply.TheVariants.{Passed}
-use Rattle.protocol.specs.declared.Reply.TheVariants as reply
+use Rattle.protocol.specs.declared.SlotRefusal.TheVariants.{UnitOutOfRange, OutsideRanges}
 
 -- any stored state, received byte and drive has a defined reply; what is refused gives back the state as it came
 pub record AnswersAll (e : Endpoint) (heard : ℕ) (g : Drive) : Type 0 where
-  pub bad_state : well_formed e ≡ false → slot_of e heard g ≡ refuses e 13
-  pub bad_offer : well_formed e ≡ true → offer_allowed e g e.phase ≡ false → slot_of e heard g ≡ refuses e 12
+  pub bad_state : well_formed e ≡ false → slot_of e heard g ≡ refuses e OutsideRanges
+  pub bad_offer : well_formed e ≡ true → offer_allowed e g e.phase ≡ false → slot_of e heard g ≡ refuses e UnitOutOfRange
   pub otherwise : well_formed e ≡ true → offer_allowed e g e.phase ≡ true → slot_of e heard g ≡ passes (step_of e heard g)
   -- and a state that is in its ranges stays so
   pub kept : well_formed e ≡ true → well_formed (slot_of e heard g).state ≡ true
 
 -- a slot of a call that 12 refuses
 pub record NotPassed (e : Endpoint) (heard : ℕ → ℕ) (given : ℕ → Drive) (t : ℕ) : Type 0 where
-  pub reply : (slot_of (end_at e heard given t) (heard t) (given t)).reply ≡ reply.Refused 12
+  pub reply : (slot_of (end_at e heard given t) (heard t) (given t)).reply ≡ Err UnitOutOfRange
   pub sent : sent_at e heard given t ≡ Silence
-  pub delivered : delivered_at e heard given t ≡ Nothing
+  pub delivered : delivered_at e heard given t ≡ None
   pub taken : taken_at e heard given t ≡ false
   pub after : end_at e heard given (suc t) ≡ end_at e heard given t
 
@@ -50,7 +48,7 @@ pub record StaysConcluded (e : Endpoint) (heard : ℕ → ℕ) (given : ℕ → 
   pub refused : (number slot : ℕ) → (end_at e heard given t).phase ≡ phase.Refused number slot → end_at e heard given u ≡ end_at e heard given t
   pub idles : (number slot : ℕ) → (end_at e heard given t).phase ≡ phase.Refused number slot → sent_at e heard given u ≡ Alone sdidle
   pub ignores : (number slot : ℕ) → (end_at e heard given t).phase ≡ phase.Refused number slot
-      → (delivered_at e heard given u ≡ Nothing) × (taken_at e heard given u ≡ false)
+      → (delivered_at e heard given u ≡ None) × (taken_at e heard given u ≡ false)
 
 -- a call from an accepted book, whatever it hears and is given
 pub record CallHolds (b : Book) (heard : ℕ → ℕ) (given : ℕ → Drive) : Type 0 where
@@ -58,7 +56,7 @@ pub record CallHolds (b : Book) (heard : ℕ → ℕ) (given : ℕ → Drive) : 
   -- a slot passes unless 12 refuses its offer, and its reply is what the slot sends, delivers and takes and where the end then stands
   pub replies : (t : ℕ) → offer_allowed (end_at (started b) heard given t) (given t) (end_at (started b) heard given t).phase ≡ true
       → (slot_of (end_at (started b) heard given t) (heard t) (given t)).reply
-      ≡ Passed (byte (byte_sent (sent_at (started b) heard given t))) (delivered_at (started b) heard given t)
+      ≡ passed_with (byte (byte_sent (sent_at (started b) heard given t))) (delivered_at (started b) heard given t)
       (taken_at (started b) heard given t) (stands_at (started b) heard given (suc t))
   -- one that 12 refuses has not passed: nothing is sent, delivered or taken in it, and the end is as it was
   pub not_passed : (t : ℕ) → offer_allowed (end_at (started b) heard given t) (given t) (end_at (started b) heard given t).phase ≡ false

@@ -3,8 +3,7 @@ use Rattle.std.specs.Prelude.{◌≡◌, true, List, [], ◌∷◌, ℕ, length}
 use Rattle.ground.specs.Digits.{all_below}
 use Rattle.ground.specs.Lists.{is_among}
 use Rattle.packing.specs.FormsOfData.{packed, unpacked}
-use Rattle.packing.specs.NumbersOfRefusal.{number_of, room_refusal, unpack_refusal}
-use Rattle.packing.specs.declared.Reply.{Reply}
+use Rattle.packing.specs.NumbersOfRefusal.{Reply, number_of, room_refusal, unpack_refusal}
 
 -- the numbers of refusal of packing, and of unpacking
 abbrev pub pack_numbers : List ℕ

@@ -1,5 +1,3 @@
-pub mod DueBytes
-pub mod InGroup
-pub mod OtherKinds
 pub mod EightBits
 pub mod OneReply
+pub mod OtherKinds

@@ -1,11 +1,11 @@
--- A byte of a kind that a branch does not name: what is known of it is that it is none of those named before. Assumes nothing.
+-- A byte of a kind that is not named. Assumes nothing.
+use Rattle.std.specs.Prelude.{None}
 use mathlib.Core.Path.{◌≡◌, refl}
 use mathlib.Core.Bool.{false}
 use Prim.Native.Nat.{ℕ}
 use Rattle.channel.specs.declared.kind.Kind.{Kind}
 use Rattle.channel.specs.declared.kind.Kind.TheVariants.{Sgvi, Sgp, Sgr, Dl, Dh, Sd, Other}
 use Rattle.protocol.specs.Collecting.{of_run, dropped}
-use Rattle.protocol.specs.declared.Half.TheVariants.{Empty}
 use Rattle.protocol.specs.declared.Hearing.{Hearing}
 use Rattle.collecting.specs.DueNibble.{due_nibble, dropped_by}
 
@@ -19,7 +19,7 @@ no_run item (Dh x) v p = refl
 no_run item (Sd s bk) v p = refl
 no_run item Other v p = refl
 
-pub no_nibble : (count : ℕ) (k : Kind) → ((x : ℕ) → k ≡ Dl x → ⊥) → ((x : ℕ) → k ≡ Dh x → ⊥) → Empty ≡ due_nibble count k
+pub no_nibble : (count : ℕ) (k : Kind) → ((x : ℕ) → k ≡ Dl x → ⊥) → ((x : ℕ) → k ≡ Dh x → ⊥) → None ≡ due_nibble count k
 unfolding due_nibble
 no_nibble count Sgvi l h = refl
 no_nibble count (Sgp i) l h = refl

@@ -1,20 +1,19 @@
 -- The nibble of the next one due in a group, and what a byte of any other kind does. Assumes nothing.
-use Rattle.std.specs.Prelude.{cond, ◌||◌, ℕ}
+use Rattle.std.specs.Prelude.{◌||◌, ℕ, Option, None}
+use Rattle.std.specs.Bool.{then_some}
 use Rattle.channel.specs.declared.kind.Kind.{Kind}
 use Rattle.channel.specs.declared.kind.Kind.TheVariants.{Sgvi, Sgp, Sgr, Dl, Dh, Sd, Other}
 use Rattle.protocol.specs.Collecting.{dl_due, dh_due, last_due, dropped, begun}
-use Rattle.protocol.specs.declared.Half.{Half}
-use Rattle.protocol.specs.declared.Half.TheVariants.{Empty, Holds}
 use Rattle.protocol.specs.declared.Hearing.{Hearing}
 
-unfoldable pub due_nibble : ℕ → Kind → Half
-due_nibble count (Dl x) = cond (dl_due count) (Holds x) Empty
-due_nibble count (Dh x) = cond (dh_due count || last_due count) (Holds x) Empty
-due_nibble count Sgvi = Empty
-due_nibble count (Sgp k) = Empty
-due_nibble count Sgr = Empty
-due_nibble count (Sd s bk) = Empty
-due_nibble count Other = Empty
+unfoldable pub due_nibble : ℕ → Kind → Option ℕ
+due_nibble count (Dl x) = then_some (dl_due count) x
+due_nibble count (Dh x) = then_some (dh_due count || last_due count) x
+due_nibble count Sgvi = None
+due_nibble count (Sgp k) = None
+due_nibble count Sgr = None
+due_nibble count (Sd s bk) = None
+due_nibble count Other = None
 
 -- a DL that drops a group begins another
 unfoldable pub dropped_by : Hearing → ℕ → Kind → Hearing

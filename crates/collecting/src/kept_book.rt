@@ -1,9 +1,8 @@
 // What the exchange takes from the kept book.
-ghost use Rattle.std.specs.Prelude.{◌≡◌, get_or};
-ghost use Rattle.book.specs.Book.{no_entry};
+ghost use Rattle.std.specs.Prelude.{◌≡◌};
 ghost use Rattle.protocol.specs.Exchange.{originates, entry_of, calls_on_form8, bit1_alone, identifier, left_out};
 
-use book::{Book, Entry, MOST_ENTRIES, NO_ENTRY, ORIGINATING};
+use book::{Book, Entry, NO_ENTRY, ORIGINATING};
 
 pub fn originates(b: Book) -> bool
     ensures { result ≡ originates b }
@@ -11,22 +10,10 @@ pub fn originates(b: Book) -> bool
     b.role == ORIGINATING
 }
 
-fn entry_at(entries: [Entry; MOST_ENTRIES], i: u8) -> Entry
-    ensures { result ≡ get_or entries i no_entry }
-{
-    let at = i as usize;
-    if at < MOST_ENTRIES {
-        entries[at]
-    } else {
-        NO_ENTRY
-    }
-}
-
 pub fn entry_of(b: Book, i: u8) -> Entry
     ensures { result ≡ entry_of b i }
 {
-    let entries = b.entries;
-    entry_at(entries, i)
+    b.entries.get(usize::from(i)).copied().unwrap_or(NO_ENTRY)
 }
 
 // An originator whose entry has form 8.
@@ -46,6 +33,7 @@ fn bit_1_alone(mask: u8) -> u8
 
 // What an end sends as its identifier, and settles the version with: its mask; of an originator whose entry has form 8, bit 1 of its mask
 // alone.
+#[tactic(auto, unfolding(protocol::specs::Exchange::identifier))]
 pub fn identifier(b: Book) -> u8
     ensures { result ≡ identifier b }
 {

@@ -10,19 +10,14 @@ pub const IDENTIFIER_RUN: u8 = 16;
 // Three DL DH pairs.
 pub const GROUP_LENGTH: u8 = 6;
 
-// A sum of these does not wrap.
-pub(crate) fn wide(x: u8) -> u16
-    ensures { result ≡ x }
-{
-    x as u16
-}
-
+#[tactic(auto, unfolding(protocol::specs::Lengths::parameter_run))]
 fn parameter_run(b: Book) -> u8
     ensures { result ≡ parameter_run b }
 {
     4
 }
 
+#[tactic(auto, unfolding(protocol::specs::Lengths::parameter_lead))]
 pub fn parameter_lead(b: Book) -> u8
     ensures { result ≡ parameter_lead b }
 {
@@ -30,6 +25,7 @@ pub fn parameter_lead(b: Book) -> u8
 }
 
 // The run for an item: item 0 is the identifier, item k + 1 is parameter k.
+#[tactic(auto, unfolding(protocol::specs::Lengths::identifier_run))]
 pub fn run_length(b: Book, item: u8) -> u8
     ensures { result ≡ run_length b item }
 {
@@ -44,10 +40,11 @@ pub fn run_length(b: Book, item: u8) -> u8
 pub fn parameter_bytes(b: Book) -> u16
     ensures { result ≡ parameter_bytes b }
 {
-    wide(parameter_lead(b)) + wide(GROUP_LENGTH)
+    u16::from(parameter_lead(b)) + u16::from(GROUP_LENGTH)
 }
 
 // All five parameters.
+#[tactic(auto, unfolding(protocol::specs::Lengths::parameter_lead))]
 pub fn all_parameter_bytes(b: Book) -> u16
     ensures { result ≡ all_parameter_bytes b }
 {

@@ -1,33 +1,29 @@
--- What a reading came to, by what the system answered. Assumes nothing.
-use Prim.Native.Nat.{ℕ, ◌≤◌}
-use mathlib.Core.Bool.{true, false, true≢false}
+-- What a reading came to, by what the library answered. Assumes nothing.
+use Prim.Native.Nat.{ℕ, ◌<◌}
 use mathlib.Core.Path.{◌≡◌, refl, sym, subst}
+use mathlib.Core.List.{List}
 use native.Mathlib.Omega.{arith}
-use borrow.Author.Rules.{rules}
-use borrow.Author.Tests.{ltb-true}
-use lib.IntN.{ℤ, pos, negsuc}
-use lib.Signed.{lt_z}
-use Rattle.io.specs.Counts.{clamp_len}
-use Rattle.console.specs.declared.Input.{Input}
+use lib.ListN.{length}
+use Rattle.std.specs.Prelude.{Option, Result, Ok, Err, IfOk}
+use Rattle.std.specs.Io.KnownBytes.{IsAtEnd, ReadConsumes}
+use Rattle.console.specs.declared.Failure.{Failure}
 use Rattle.console.specs.Reading.{Within, came_of}
 
-pub within_read : {n k : ℕ} {r : Input} → Within n r → r ≡ Input.Read k → k ≤ n
-within_read {n} w is = subst (Within n) is w
-
-within : (got : ℤ) (n : ℕ) → Within n (came_of got n)
+within : {E : Type 0} (read : Result ℕ E) (n : ℕ) → Within n (came_of read n)
 unfolding came_of
-within (pos k) n = omega arith
-within (negsuc k) n = search rules
+within (Ok k) n = omega arith
+within (Err e) n = refl
 
-pub came_within : (got : ℤ) (n : ℕ) {r : Input} → r ≡ came_of got n → Within n r
-came_within got n is = subst (Within n) (sym is) (within got n)
+pub came_within : {E : Type 0} (read : Result ℕ E) (n : ℕ) {r : Result ℕ Failure} → r ≡ came_of read n → Within n r
+came_within read n is = subst (Within n) (sym is) (within read n)
 
-pub below_failed : (got : ℤ) (n : ℕ) → lt_z got (pos 0) ≡ true → Input.Failed ≡ came_of got n
+ends : {E : Type 0} (read : Result ℕ E) (buf : List ℕ) (old new : Option (List ℕ)) → ReadConsumes old new read buf
+    → IfOk (came_of read (length buf)) (λ n. n ≡ 0 → 0 < length buf → IsAtEnd new)
 unfolding came_of
-below_failed (pos k) n is = absurd (omega (arith, ltb-true k 0 is))
-below_failed (negsuc k) n is = refl
+ends (Ok k) buf old new consumes = λ none more. consumes.1 (omega arith) more
+ends (Err e) buf old new consumes = tt
 
-pub else_came : (got : ℤ) (n : ℕ) → lt_z got (pos 0) ≡ false → Input.Read (clamp_len got n) ≡ came_of got n
-unfolding came_of
-else_came (pos k) n is = refl
-else_came (negsuc k) n is = absurd (true≢false is)
+pub came_ends : {E : Type 0} (read : Result ℕ E) (buf : List ℕ) (old new : Option (List ℕ)) {r : Result ℕ Failure} → ReadConsumes old new read buf
+    → r ≡ came_of read (length buf) → IfOk r (λ n. n ≡ 0 → 0 < length buf → IsAtEnd new)
+came_ends read buf old new {r} consumes is =
+    subst (λ (r : Result ℕ Failure). IfOk r (λ n. n ≡ 0 → 0 < length buf → IsAtEnd new)) (sym is) (ends read buf old new consumes)

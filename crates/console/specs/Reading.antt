@@ -1,13 +1,13 @@
 -- What a reading came to. Assumes nothing.
-use Rattle.std.specs.Prelude.{ℕ, ◌≤◌, min, ℤ, pos, negsuc}
-use Rattle.console.specs.declared.Input.{Input}
+use Rattle.std.specs.Prelude.{◌≡◌, ℕ, ◌≤◌, min, Result, Ok, Err}
+use Rattle.console.specs.declared.Failure.{Failure}
 
--- one read into n places, by what the system answered: below 0 it failed, else that many bytes came
-unfoldable pub came_of : ℤ → ℕ → Input
-came_of (pos k) n = Input.Read (min k n)
-came_of (negsuc k) n = Input.Failed
+-- one read into n places, by what the library answered: it failed, or so many bytes came
+unfoldable pub came_of : {E : Type 0} → Result ℕ E → ℕ → Result ℕ Failure
+came_of (Ok k) n = Ok (min k n)
+came_of (Err e) n = Err Failure.NotRead
 
 -- into a buffer of n places: no more bytes came than it has, or a read failed
-abbrev pub Within : ℕ → Input → Type 0
-Within n (Input.Read k) = k ≤ n
-Within n Input.Failed = Unit {0}
+abbrev pub Within : ℕ → Result ℕ Failure → Type 0
+Within n (Ok k) = k ≤ n
+Within n (Err e) = e ≡ Failure.NotRead

@@ -1,4 +1,3 @@
-pub mod Clock
 pub mod Steps
 pub mod Says
 pub mod SaysAll

@@ -1,17 +1,18 @@
 -- Answers that say the same are the same: nothing is lost in numbers. Assumes nothing.
+use Rattle.std.specs.Prelude.{Option, Some, None, Ok, Err}
 use mathlib.Core.Path.{◌≡◌, refl, sym, ap, ◌∙◌}
 use mathlib.Core.Bool.{Bool, true, false, cond, ◌||◌}
 use mathlib.Core.List.{List}
 use Prim.Native.Nat.{ℕ}
 use lib.Dec.{eqb}
 use lib.ListN.{length, get_or, drop}
+use Rattle.channel.specs.declared.byte.ChannelByte.{ChannelByte}
 use Rattle.channel.specs.Bytes.{byte, bit_of}
 use Rattle.protocol.specs.Answers.{says_outcome, says_reply}
-use Rattle.protocol.specs.declared.Delivered.TheVariants as delivered
+use Rattle.protocol.specs.Slot.{Reply, passed_with}
 use Rattle.protocol.specs.declared.Outcome.{Outcome}
 use Rattle.protocol.specs.declared.Outcome.TheVariants as outcome
-use Rattle.protocol.specs.declared.Reply.{Reply}
-use Rattle.protocol.specs.declared.Reply.TheVariants as reply
+use Rattle.protocol.specs.declared.SlotRefusal.TheVariants.{UnitOutOfRange, OutsideRanges}
 
 -- the answers back from what they say
 
@@ -47,23 +48,25 @@ has_unit n = eqb n 4 || eqb n 6 || eqb n 19
 
 reply_in : List ℕ → Reply
 reply_in xs =
-    cond (eqb (length xs) 1) (reply.Refused (get_or xs 0 0))
-    (cond (has_unit (length xs)) (reply.Passed (byte (get_or xs 1 0)) (delivered.Unit (get_or xs 2 0)) (is xs 3) (outcome_in (drop 4 xs)))
-    (reply.Passed (byte (get_or xs 1 0)) delivered.Nothing (is xs 2) (outcome_in (drop 3 xs))))
+    cond (eqb (length xs) 1) (Err (cond (eqb (get_or xs 0 0) 12) UnitOutOfRange OutsideRanges))
+    (cond (has_unit (length xs)) (passed_with (byte (get_or xs 1 0)) (Some (get_or xs 2 0)) (is xs 3) (outcome_in (drop 4 xs)))
+    (passed_with (byte (get_or xs 1 0)) None (is xs 2) (outcome_in (drop 3 xs))))
+
+passed_told : (sent : ChannelByte) (d : Option ℕ) (taken : Bool) (o : Outcome)
+    → reply_in (says_reply (passed_with sent d taken o)) ≡ passed_with sent d taken o
+unfolding reply_in has_unit is
+passed_told sent None taken outcome.Exchanging = rw (is_bit taken, outcome_told outcome.Exchanging)
+passed_told sent None taken (outcome.Open version p slot s) = rw (is_bit taken, outcome_told (outcome.Open version p slot s))
+passed_told sent None taken (outcome.Refused number slot) = rw (is_bit taken, outcome_told (outcome.Refused number slot))
+passed_told sent (Some u) taken outcome.Exchanging = rw (is_bit taken, outcome_told outcome.Exchanging)
+passed_told sent (Some u) taken (outcome.Open version p slot s) = rw (is_bit taken, outcome_told (outcome.Open version p slot s))
+passed_told sent (Some u) taken (outcome.Refused number slot) = rw (is_bit taken, outcome_told (outcome.Refused number slot))
 
 reply_told : (r : Reply) → reply_in (says_reply r) ≡ r
-unfolding reply_in has_unit is
-reply_told (reply.Refused number) = refl
-reply_told (reply.Passed sent delivered.Nothing taken outcome.Exchanging) = rw (is_bit taken, outcome_told outcome.Exchanging)
-reply_told (reply.Passed sent delivered.Nothing taken (outcome.Open version p slot s)) =
-    rw (is_bit taken, outcome_told (outcome.Open version p slot s))
-reply_told (reply.Passed sent delivered.Nothing taken (outcome.Refused number slot)) =
-    rw (is_bit taken, outcome_told (outcome.Refused number slot))
-reply_told (reply.Passed sent (delivered.Unit u) taken outcome.Exchanging) = rw (is_bit taken, outcome_told outcome.Exchanging)
-reply_told (reply.Passed sent (delivered.Unit u) taken (outcome.Open version p slot s)) =
-    rw (is_bit taken, outcome_told (outcome.Open version p slot s))
-reply_told (reply.Passed sent (delivered.Unit u) taken (outcome.Refused number slot)) =
-    rw (is_bit taken, outcome_told (outcome.Refused number slot))
+unfolding reply_in
+reply_told (Err UnitOutOfRange) = refl
+reply_told (Err OutsideRanges) = refl
+reply_told (Ok p) = passed_told p.sent p.delivered p.taken p.outcome
 
 pub reply_says_all : (r s : Reply) → says_reply r ≡ says_reply s → r ≡ s
 reply_says_all r s e = sym (reply_told r) ∙ ap reply_in e ∙ reply_told s

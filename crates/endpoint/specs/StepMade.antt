@@ -1,19 +1,17 @@
 -- What the code hands back of one slot: the fields of protocol's step, with the byte for what is sent, and the end without its book, which no
 -- slot changes. Assumes nothing.
-use Rattle.std.specs.Prelude.{false, ℕ}
+use Rattle.std.specs.Prelude.{false, ℕ, None}
 use Rattle.book.specs.declared.Book.{Book}
 use Rattle.channel.specs.declared.byte.ChannelByte.{ChannelByte}
 use Rattle.channel.specs.Bytes.{byte}
 use Rattle.protocol.specs.Collecting.{no_nibbles}
 use Rattle.protocol.specs.Sent.{byte_sent}
-use Rattle.protocol.specs.Slot.{Step, outcome_of}
+use Rattle.protocol.specs.Slot.{Step, outcome_of, passed_with}
 use Rattle.protocol.specs.declared.Endpoint.{Endpoint}
 use Rattle.protocol.specs.declared.Exchange.{Exchange}
 use Rattle.protocol.specs.declared.Phase.{Phase}
 use Rattle.protocol.specs.declared.Phase.TheVariants.{Exchanging}
 use Rattle.protocol.specs.declared.SlotAnswer.{SlotAnswer}
-use Rattle.protocol.specs.declared.Delivered.TheVariants as delivered
-use Rattle.protocol.specs.declared.Reply.TheVariants as reply
 use Rattle.endpoint.specs.declared.slot.Rest.{Rest}
 use Rattle.endpoint.specs.declared.slot.StepMade.{StepMade}
 
@@ -40,9 +38,9 @@ step_made s = record { rest = rest_of s.state; sent = byte (byte_sent s.sent); d
 
 -- nothing is delivered or taken
 abbrev pub quiet_step : Rest → ChannelByte → StepMade
-quiet_step rest sent = record { rest = rest; sent = sent; delivered = delivered.Nothing; taken = false }
+quiet_step rest sent = record { rest = rest; sent = sent; delivered = None; taken = false }
 
 abbrev pub passed_by : Book → StepMade → SlotAnswer
 passed_by b s =
     let e = with_book b s.rest in
-    record { state = e; reply = reply.Passed s.sent s.delivered s.taken (outcome_of e) }
+    record { state = e; reply = passed_with s.sent s.delivered s.taken (outcome_of e) }

@@ -1,12 +1,14 @@
 // One slot of one end, and where the end stands.
 ghost use Rattle.std.specs.Prelude.{◌≡◌};
+ghost use Rattle.protocol.specs.Opened.{shape_of};
 ghost use Rattle.protocol.specs.Ranges.{well_formed};
+ghost use Rattle.protocol.specs.Exchange.{entry_of};
 ghost use Rattle.protocol.specs.Slot.{exchange_of, started, clocked, opens_hearing, exchange_step, open_at, open_step, step_of, offer_fits, offer_allowed, outcome_at, outcome_of, refuses, slot_of};
 ghost use Rattle.protocol.specs.Answers.{says_outcome, stands_in, says_reply, slot_says};
-ghost use Rattle.protocol.specs.declared.Phase.TheVariants.{Open};
+ghost use Rattle.protocol.specs.declared.Phase.TheVariants.{Open, Refused};
 ghost use Rattle.endpoint.specs.StepMade.{rest_of, with_book, exchanging_rest, concluded_rest, step_made, quiet_step, passed_by};
 
-use book::{Book, book_ok};
+use book::{Book, Entry, book_ok};
 use channel::byte::ChannelByte;
 use collecting::hearing::NO_NIBBLES;
 use collecting::kept_book::entry_of;
@@ -14,8 +16,8 @@ use exchange::turn::{first_exchange, turn};
 use opened::line::fresh_line;
 use opened::shape::{has_unit, shape_of};
 use protocol::{
-    Awaited, Delivered, Drive, Endpoint, Exchange, Fate, Hearing, Line, Offer, Outcome, Phase,
-    Reply, Sending, SlotAnswer,
+    Awaited, Drive, Endpoint, Exchange, Fate, Hearing, Line, Outcome, Passed, Phase, Sending,
+    Shape, SlotAnswer, SlotRefusal,
 };
 use ranges::phase_in;
 use reading::reading;
@@ -29,39 +31,242 @@ pub(crate) struct Rest {
     pub(crate) phase: Phase,
 }
 
+impl From<Endpoint> for Rest {
+    ghost from_gives = { λ e rest. rest ≡ rest_of e };
+
+    fn from(e: Endpoint) -> Rest {
+        let nibbles = e.nibbles;
+        let values = e.values;
+        Rest {
+            nibbles,
+            values,
+            phase: e.phase,
+        }
+    }
+}
+
+impl Rest {
+    fn with_book(self, book: Book) -> Endpoint
+        ensures { result ≡ with_book book self }
+    {
+        let nibbles = self.nibbles;
+        let values = self.values;
+        Endpoint {
+            book,
+            nibbles,
+            values,
+            phase: self.phase,
+        }
+    }
+
+    fn exchanging(slot: u16, x: Exchange) -> Rest
+        ensures { result ≡ exchanging_rest slot x }
+    {
+        let hearing = x.hearing;
+        let nibbles = hearing.nibbles;
+        let values = hearing.values;
+        let phase = Phase::Exchanging {
+            slot,
+            version: x.version,
+            awaited: hearing.awaited,
+            sending: x.sending,
+        };
+        Rest {
+            nibbles,
+            values,
+            phase,
+        }
+    }
+
+    // An end that has concluded keeps the values that were voted.
+    fn concluded(x: Exchange, phase: Phase) -> Rest
+        ensures { result ≡ concluded_rest x phase }
+    {
+        let hearing = x.hearing;
+        let values = hearing.values;
+        Rest {
+            nibbles: NO_NIBBLES,
+            values,
+            phase,
+        }
+    }
+}
+
 // What a slot brings: the end but for its book, the byte sent, what is delivered, and whether the offered unit is taken.
 #[derive(Clone, Copy)]
 pub(crate) struct StepMade {
     pub(crate) rest: Rest,
     pub(crate) sent: ChannelByte,
-    pub(crate) delivered: Delivered,
+    pub(crate) delivered: Option<u8>,
     pub(crate) taken: bool,
 }
 
-fn rest_of(e: Endpoint) -> Rest
-    ensures { result ≡ rest_of e }
-{
-    let nibbles = e.nibbles;
-    let values = e.values;
-    let phase = e.phase;
-    Rest {
-        nibbles,
-        values,
-        phase,
+impl StepMade {
+    // Nothing is delivered or taken.
+    fn quiet(rest: Rest, sent: ChannelByte) -> StepMade
+        ensures { result ≡ quiet_step rest sent }
+    {
+        StepMade {
+            rest,
+            sent,
+            delivered: None,
+            taken: false,
+        }
     }
 }
 
-fn with_book(b: Book, rest: Rest) -> Endpoint
-    ensures { result ≡ with_book b rest }
-{
-    let nibbles = rest.nibbles;
-    let values = rest.values;
-    let phase = rest.phase;
-    Endpoint {
-        book: b,
-        nibbles,
-        values,
-        phase,
+// An end in the exchange, in a slot.
+#[derive(Clone, Copy)]
+pub(crate) struct Calling {
+    pub(crate) book: Book,
+    pub(crate) slot: u16,
+    pub(crate) exchange: Exchange,
+}
+
+impl Calling {
+    // An end neither open nor refused after acting and sending in slot L-1 refuses 23.
+    #[tactic(auto, unfolding(protocol::specs::Slot::clocked))]
+    fn clocked(self) -> Rest
+        ensures { result ≡ rest_of (clocked self.book self.slot self.exchange) }
+    {
+        if u32::from(self.slot) + 1 < u32::from(self.book.limit) {
+            return Rest::exchanging(self.slot + 1, self.exchange);
+        }
+        self.refuses(23)
+    }
+
+    fn refuses(self, number: u8) -> Rest
+        ensures { result ≡ concluded_rest self.exchange (Refused number self.slot) }
+    {
+        let slot = self.slot;
+        Rest::concluded(self.exchange, Phase::Refused { number, slot })
+    }
+
+    fn opens(self, entry: u8, line: Line) -> Rest
+        ensures { result ≡ concluded_rest self.exchange (Open self.slot self.exchange.version entry line) }
+    {
+        let phase = Phase::Open {
+            slot: self.slot,
+            version: self.exchange.version,
+            entry,
+            line,
+        };
+        Rest::concluded(self.exchange, phase)
+    }
+
+    // Opened by a received byte, an end sends as an open end in that slot already.
+    fn opens_hearing(self, entry: u8, g: Drive) -> StepMade
+        ensures { result ≡ step_made (opens_hearing self.book self.slot self.exchange entry g) }
+    {
+        let shape = shape_of(entry_of(self.book, entry), self.exchange.version);
+        let w = first_written(shape, g);
+        let line = Line {
+            outbound: w.outbound,
+            inbound: fresh_line().inbound,
+        };
+        StepMade::quiet(self.opens(entry, line), w.sent)
+    }
+
+    fn step(self, heard: ChannelByte, g: Drive) -> StepMade
+        ensures { result ≡ step_made (exchange_step self.book self.slot self.exchange heard.0 g) }
+    {
+        let t = turn(self.book, self.exchange, heard.kind());
+        let after = Calling {
+            exchange: t.exchange,
+            ..self
+        };
+        match t.fate {
+            Fate::Stays => StepMade::quiet(after.clocked(), t.sent),
+            Fate::OpensHearing(i) => after.opens_hearing(i, g),
+            Fate::OpensSending(i) => StepMade::quiet(after.opens(i, fresh_line()), t.sent),
+            Fate::Refuses(number) => StepMade::quiet(after.refuses(number), t.sent),
+        }
+    }
+}
+
+// An open end: the slot in which it opened, the version, its entry and its line.
+#[derive(Clone, Copy)]
+pub(crate) struct OpenEnd {
+    pub(crate) end: Endpoint,
+    pub(crate) slot: u16,
+    pub(crate) version: u8,
+    pub(crate) entry: u8,
+    pub(crate) line: Line,
+}
+
+impl OpenEnd {
+    fn profile(self) -> Entry
+        ensures { result ≡ entry_of self.end.book self.entry }
+    {
+        entry_of(self.end.book, self.entry)
+    }
+
+    // How its data is laid.
+    fn shape(self) -> Shape
+        ensures { result ≡ shape_of (entry_of self.end.book self.entry) self.version }
+    {
+        shape_of(self.profile(), self.version)
+    }
+
+    fn with_line(self, line: Line) -> Rest
+        ensures { result ≡ rest_of (open_at self.end self.slot self.version self.entry line) }
+    {
+        let end = self.end;
+        let nibbles = end.nibbles;
+        let values = end.values;
+        let phase = Phase::Open {
+            slot: self.slot,
+            version: self.version,
+            entry: self.entry,
+            line,
+        };
+        Rest {
+            nibbles,
+            values,
+            phase,
+        }
+    }
+
+    // The byte acts, then the byte to send is chosen.
+    #[tactic(auto, unfolding(protocol::specs::Slot::open_step))]
+    fn step(self, heard: ChannelByte, g: Drive) -> StepMade
+        ensures { result ≡ step_made (open_step self.end self.slot self.version self.entry self.line heard.0 g) }
+    {
+        let shape = self.shape();
+        let r = reading(shape, self.line.inbound, heard);
+        let w = writing(shape, self.line.outbound, g);
+        let line = Line {
+            outbound: w.outbound,
+            inbound: r.inbound,
+        };
+        StepMade {
+            rest: self.with_line(line),
+            sent: w.sent,
+            delivered: r.delivered,
+            taken: w.taken,
+        }
+    }
+
+    // Whether its form has the offered unit.
+    fn has(self, offer: Option<u8>) -> bool
+        ensures { result ≡ offer_fits self.end self.version self.entry offer }
+    {
+        match offer {
+            None => true,
+            Some(u) => has_unit(self.shape(), u),
+        }
+    }
+
+    #[tactic(auto, unfolding(protocol::specs::Slot::outcome_at))]
+    fn outcome(self) -> Outcome
+        ensures { result ≡ outcome_at self.end (Open self.slot self.version self.entry self.line) }
+    {
+        Outcome::Open {
+            version: self.version,
+            profile: self.profile(),
+            slot: self.slot,
+            signals: self.line.inbound.standing,
+        }
     }
 }
 
@@ -83,290 +288,136 @@ fn exchange_of(e: Endpoint, version: u8, awaited: Awaited, sending: Sending) -> 
     }
 }
 
-fn exchanging(slot: u16, x: Exchange) -> Rest
-    ensures { result ≡ exchanging_rest slot x }
-{
-    let hearing = x.hearing;
-    let awaited = hearing.awaited;
-    let nibbles = hearing.nibbles;
-    let values = hearing.values;
-    let sending = x.sending;
-    let phase = Phase::Exchanging {
-        slot,
-        version: x.version,
-        awaited,
-        sending,
-    };
-    Rest {
-        nibbles,
-        values,
-        phase,
-    }
-}
-
-// An end that has concluded keeps the values that were voted.
-fn concluded(x: Exchange, phase: Phase) -> Rest
-    ensures { result ≡ concluded_rest x phase }
-{
-    let hearing = x.hearing;
-    let nibbles = NO_NIBBLES;
-    let values = hearing.values;
-    Rest {
-        nibbles,
-        values,
-        phase,
-    }
-}
-
 // Slots count from 0.
+#[tactic(auto, unfolding(protocol::specs::Slot::started))]
 pub(crate) fn started(b: Book) -> Endpoint
     ensures { result ≡ started b }
 {
-    with_book(b, exchanging(0, first_exchange(b)))
-}
-
-// An end neither open nor refused after acting and sending in slot L-1 refuses 23.
-fn clocked(b: Book, slot: u16, x: Exchange) -> Rest
-    ensures { result ≡ rest_of (clocked b slot x) }
-{
-    if slot as u32 + 1 < b.limit as u32 {
-        return exchanging(slot + 1, x);
-    }
-    concluded(x, Phase::Refused { number: 23, slot })
-}
-
-fn opens(slot: u16, x: Exchange, entry: u8, line: Line) -> Rest
-    ensures { result ≡ concluded_rest x (Open slot x.version entry line) }
-{
-    let phase = Phase::Open {
-        slot,
-        version: x.version,
-        entry,
-        line,
-    };
-    concluded(x, phase)
-}
-
-// Nothing is delivered or taken.
-fn quiet(rest: Rest, sent: ChannelByte) -> StepMade
-    ensures { result ≡ quiet_step rest sent }
-{
-    StepMade {
-        rest,
-        sent,
-        delivered: Delivered::Nothing,
-        taken: false,
-    }
-}
-
-// Opened by a received byte, an end sends as an open end in that slot already.
-fn opens_hearing(b: Book, slot: u16, x: Exchange, entry: u8, g: Drive) -> StepMade
-    ensures { result ≡ step_made (opens_hearing b slot x entry g) }
-{
-    let fresh = fresh_line();
-    let inbound = fresh.inbound;
-    let w = first_written(shape_of(entry_of(b, entry), x.version), g);
-    let outbound = w.outbound;
-    let line = Line { outbound, inbound };
-    let sent = w.sent;
-    quiet(opens(slot, x, entry, line), sent)
-}
-
-fn exchange_step(b: Book, slot: u16, x: Exchange, heard: ChannelByte, g: Drive) -> StepMade
-    ensures { result ≡ step_made (exchange_step b slot x heard.0 g) }
-{
-    let t = turn(b, x, heard.kind());
-    let fate = t.fate;
-    let y = t.exchange;
-    let sent = t.sent;
-    match fate {
-        Fate::Stays => quiet(clocked(b, slot, y), sent),
-        Fate::OpensHearing(i) => opens_hearing(b, slot, y, i, g),
-        Fate::OpensSending(i) => quiet(opens(slot, y, i, fresh_line()), sent),
-        Fate::Refuses(number) => quiet(concluded(y, Phase::Refused { number, slot }), sent),
-    }
-}
-
-fn open_at(e: Endpoint, slot: u16, version: u8, entry: u8, line: Line) -> Rest
-    ensures { result ≡ rest_of (open_at e slot version entry line) }
-{
-    let nibbles = e.nibbles;
-    let values = e.values;
-    let phase = Phase::Open {
-        slot,
-        version,
-        entry,
-        line,
-    };
-    Rest {
-        nibbles,
-        values,
-        phase,
-    }
-}
-
-// An open end: the byte acts, then the byte to send is chosen.
-fn open_step(
-    e: Endpoint,
-    slot: u16,
-    version: u8,
-    entry: u8,
-    line: Line,
-    heard: ChannelByte,
-    g: Drive,
-) -> StepMade
-    ensures { result ≡ step_made (open_step e slot version entry line heard.0 g) }
-{
-    let b = e.book;
-    let shape = shape_of(entry_of(b, entry), version);
-    let r = reading(shape, line.inbound, heard);
-    let w = writing(shape, line.outbound, g);
-    let outbound = w.outbound;
-    let inbound = r.inbound;
-    let line = Line { outbound, inbound };
-    let rest = open_at(e, slot, version, entry, line);
-    let sent = w.sent;
-    let delivered = r.delivered;
-    StepMade {
-        rest,
-        sent,
-        delivered,
-        taken: w.taken,
-    }
+    Rest::exchanging(0, first_exchange(b)).with_book(b)
 }
 
 // Refused ends send Sdidle for ever and ignore what comes.
+#[tactic(auto, unfolding(protocol::specs::Slot::step_at, protocol::specs::Sent::byte_sent))]
 fn step(e: Endpoint, heard: ChannelByte, g: Drive) -> StepMade
     ensures { result ≡ step_made (step_of e heard.0 g) }
 {
-    let b = e.book;
-    let phase = e.phase;
-    match phase {
+    match e.phase {
         Phase::Exchanging {
             slot,
             version,
             awaited,
             sending,
-        } => exchange_step(b, slot, exchange_of(e, version, awaited, sending), heard, g),
+        } => {
+            let calling = Calling {
+                book: e.book,
+                slot,
+                exchange: exchange_of(e, version, awaited, sending),
+            };
+            calling.step(heard, g)
+        }
         Phase::Open {
             slot,
             version,
             entry,
             line,
-        } => open_step(e, slot, version, entry, line, heard, g),
-        Phase::Refused { number: _, slot: _ } => quiet(rest_of(e), ChannelByte::SDIDLE),
-    }
-}
-
-fn offer_fits(e: Endpoint, version: u8, entry: u8, offer: Offer) -> bool
-    ensures { result ≡ offer_fits e version entry offer }
-{
-    match offer {
-        Offer::Nothing => true,
-        Offer::Unit(u) => {
-            let b = e.book;
-            has_unit(shape_of(entry_of(b, entry), version), u)
+        } => {
+            let open = OpenEnd {
+                end: e,
+                slot,
+                version,
+                entry,
+                line,
+            };
+            open.step(heard, g)
         }
+        Phase::Refused { .. } => StepMade::quiet(Rest::from(e), ChannelByte::SDIDLE),
     }
 }
 
 // 12: a unit out of range is offered to an end open before the slot; an end not open ignores the offer.
+#[tactic(auto, unfolding(protocol::specs::Slot::offer_allowed))]
 fn offer_allowed(e: Endpoint, g: Drive) -> bool
     ensures { result ≡ offer_allowed e g e.phase }
 {
-    let phase = e.phase;
-    let offer = g.offer;
-    match phase {
-        Phase::Exchanging {
-            slot: _,
-            version: _,
-            awaited: _,
-            sending: _,
-        } => true,
-        Phase::Open {
-            slot: _,
-            version,
-            entry,
-            line: _,
-        } => offer_fits(e, version, entry, offer),
-        Phase::Refused { number: _, slot: _ } => true,
-    }
-}
-
-// Where an end stands.
-pub fn outcome(e: Endpoint) -> Outcome
-    ensures value { result ≡ outcome_of e }
-    ensures says { says_outcome result ≡ stands_in e e.phase }
-{
-    let phase = e.phase;
-    match phase {
-        Phase::Exchanging {
-            slot: _,
-            version: _,
-            awaited: _,
-            sending: _,
-        } => Outcome::Exchanging,
+    match e.phase {
         Phase::Open {
             slot,
             version,
             entry,
             line,
-        } => open_outcome(e, slot, version, entry, line),
+        } => {
+            let open = OpenEnd {
+                end: e,
+                slot,
+                version,
+                entry,
+                line,
+            };
+            open.has(g.offer)
+        }
+        Phase::Exchanging { .. } | Phase::Refused { .. } => true,
+    }
+}
+
+// Where an end stands.
+#[tactic(auto, unfolding(protocol::specs::Slot::outcome_at, protocol::specs::Answers::stands_in))]
+pub fn outcome(e: Endpoint) -> Outcome
+    ensures value { result ≡ outcome_of e }
+    ensures says { says_outcome result ≡ stands_in e e.phase }
+{
+    match e.phase {
+        Phase::Exchanging { .. } => Outcome::Exchanging,
+        Phase::Open {
+            slot,
+            version,
+            entry,
+            line,
+        } => {
+            let open = OpenEnd {
+                end: e,
+                slot,
+                version,
+                entry,
+                line,
+            };
+            open.outcome()
+        }
         Phase::Refused { number, slot } => Outcome::Refused { number, slot },
     }
 }
 
-fn open_outcome(e: Endpoint, slot: u16, version: u8, entry: u8, line: Line) -> Outcome
-    ensures { result ≡ outcome_at e (Open slot version entry line) }
-{
-    let b = e.book;
-    let profile = entry_of(b, entry);
-    let inbound = line.inbound;
-    let signals = inbound.standing;
-    Outcome::Open {
-        version,
-        profile,
-        slot,
-        signals,
-    }
-}
-
 // The kept book passes its check, and the rest is in its range.
+#[tactic(auto, unfolding(protocol::specs::Ranges::well_formed))]
 pub fn well_formed(e: Endpoint) -> bool
     ensures { result ≡ well_formed e }
 {
-    let b = e.book;
-    let nibbles = e.nibbles;
-    let values = e.values;
-    let phase = e.phase;
-    book_ok(b) & phase_in(b, nibbles, values, phase)
+    book_ok(e.book) & phase_in(e.book, e.nibbles, e.values, e.phase)
 }
 
 // The end that comes out of a slot has the book that went in.
 fn passed(e: Endpoint, s: StepMade) -> SlotAnswer
     ensures { result ≡ passed_by e.book s }
 {
-    let rest = s.rest;
-    let state = with_book(e.book, rest);
-    let sent = s.sent;
-    let delivered = s.delivered;
-    let stands = outcome(state);
-    let reply = Reply::Passed {
-        sent,
-        delivered,
+    let state = s.rest.with_book(e.book);
+    let passed = Passed {
+        sent: s.sent,
+        delivered: s.delivered,
         taken: s.taken,
-        outcome: stands,
+        outcome: outcome(state),
     };
-    SlotAnswer { state, reply }
+    SlotAnswer {
+        state,
+        reply: Ok(passed),
+    }
 }
 
-// 12 and 13 give back the state as it came.
-fn refused(e: Endpoint, number: u8) -> SlotAnswer
-    ensures { result ≡ refuses e number }
+// A refused slot gives back the state as it came.
+fn refused(e: Endpoint, refusal: SlotRefusal) -> SlotAnswer
+    ensures { result ≡ refuses e refusal }
 {
     SlotAnswer {
         state: e,
-        reply: Reply::Refused(number),
+        reply: Err(refusal),
     }
 }
 
@@ -379,7 +430,7 @@ pub fn slot(e: Endpoint, heard: ChannelByte, g: Drive) -> SlotAnswer
         if offer_allowed(e, g) {
             return passed(e, step(e, heard, g));
         }
-        return refused(e, 12);
+        return refused(e, SlotRefusal::UnitOutOfRange);
     }
-    refused(e, 13)
+    refused(e, SlotRefusal::OutsideRanges)
 }

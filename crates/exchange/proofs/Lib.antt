@@ -1,11 +1,2 @@
-pub mod OtherParams
 pub mod MatchedOn
-pub mod Settled
-pub mod Hails
-pub mod LastSgp
-pub mod ParameterBytes
-pub mod Compared
-pub mod Choices
-pub mod Fates
-pub mod Turns
 pub mod OneReply

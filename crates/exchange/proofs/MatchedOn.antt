@@ -1,17 +1,28 @@
--- The search for an entry, one entry on. Assumes nothing.
-use mathlib.Core.Path.{◌≡◌}
-use mathlib.Core.Bool.{cond}
+-- The search for an entry, from the last one down. Assumes nothing.
+use Rattle.std.specs.Prelude.{Some, None}
+use mathlib.Core.Path.{◌≡◌, refl}
+use mathlib.Core.Bool.{true, false}
 use mathlib.Core.List.{List}
-use Prim.Native.Nat.{ℕ, ◌+◌}
-use native.Mathlib.Numerals.{add-one}
+use Prim.Native.Nat.{ℕ, zero, suc, ◌-◌, ◌<◌}
+use native.Mathlib.Omega.{arith}
 use lib.ListN.{get_or}
 use Rattle.book.specs.declared.Entry.{Entry}
 use Rattle.book.specs.Book.{no_entry}
 use Rattle.protocol.specs.Exchange.{matches, match_in}
-use Rattle.protocol.specs.declared.Match.TheVariants as match
 
-pub match_on : (version : ℕ) (entries : List Entry) (values : List ℕ) (i : ℕ)
-    → match_in version entries values (i + 1)
-    ≡ cond (matches version (get_or entries i no_entry) values) (match.Entry i) (match_in version entries values i)
+pub match_here : (version : ℕ) (entries : List Entry) (values : List ℕ) (i : ℕ) → 0 < i
+    → matches version (get_or entries (i - 1) no_entry) values ≡ true → match_in version entries values i ≡ Some (i - 1)
 unfolding match_in
-match_on version entries values i = rw (add-one i)
+match_here version entries values zero h m = absurd (omega arith)
+match_here version entries values (suc i) h m = let e : suc i - 1 ≡ i = omega arith in rw (rw e at m, e)
+
+pub match_below : (version : ℕ) (entries : List Entry) (values : List ℕ) (i : ℕ) → 0 < i
+    → matches version (get_or entries (i - 1) no_entry) values ≡ false
+    → match_in version entries values i ≡ match_in version entries values (i - 1)
+unfolding match_in
+match_below version entries values zero h m = absurd (omega arith)
+match_below version entries values (suc i) h m = let e : suc i - 1 ≡ i = omega arith in rw (rw e at m, e)
+
+pub match_none : (version : ℕ) (entries : List Entry) (values : List ℕ) → match_in version entries values 0 ≡ None
+unfolding match_in
+match_none version entries values = refl

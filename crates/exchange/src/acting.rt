@@ -5,7 +5,7 @@ ghost use Rattle.protocol.specs.Exchange.{settles, acted};
 
 use book::Book;
 use channel::kind::Kind;
-use channel::version::{Shared, shared_version};
+use channel::version::shared_version;
 use collecting::hearing::{has_identifier, hear};
 use collecting::kept_book::identifier;
 use protocol::{Awaited, Exchange, Hearing};
@@ -19,28 +19,20 @@ pub(crate) fn settles(before: Hearing, after: Hearing) -> bool
     !has_identifier(was) & has_identifier(is)
 }
 
-// The highest version that both masks have; 0 for none.
-fn highest(own: u8, other: u8) -> u8
-    ensures { result ≡ highest own other }
-{
-    match shared_version(own, other) {
-        Shared::Version(version) => version,
-        Shared::Nothing => 0,
-    }
-}
-
-// The version after the identifier is voted; before, and in later slots, it stands.
+// The version after the identifier is voted, 0 for none that both masks have; before, and in later slots, it stands.
+#[tactic(auto, unfolding(channel::specs::Versions::shared))]
 fn settled(settling: bool, version: u8, own: u8, other: u8) -> u8
     ensures { result ≡ cond settling (highest own other) version }
 {
     if settling {
-        highest(own, other)
+        shared_version(own, other).unwrap_or(0)
     } else {
         version
     }
 }
 
 // On the other's identifier the version is settled.
+#[tactic(auto, unfolding(protocol::specs::Exchange::acted))]
 pub(crate) fn acted(b: Book, x: Exchange, k: Kind) -> Exchange
     ensures { result ≡ acted b x k }
 {

@@ -4,7 +4,7 @@ ghost use Rattle.protocol.specs.Exchange.{settles, chosen_answering, answered, o
 
 use crate::acting::{awaited_of, settles};
 use collecting::hearing::{awaits_hail, has_all};
-use protocol::{Exchange, Fate, Match, Sending};
+use protocol::{Exchange, Fate, Sending};
 
 // The identifier is voted in this slot, and no version is shared.
 pub(crate) fn settles_none(x: Exchange, y: Exchange) -> bool
@@ -16,6 +16,7 @@ pub(crate) fn settles_none(x: Exchange, y: Exchange) -> bool
 }
 
 // Sgvi until 16 contiguous Sgvi have come, from that slot the identifier, then Sdidle; from the slot that completes p4 the parameters.
+#[tactic(auto, unfolding(protocol::specs::Exchange::chosen_answering))]
 pub(crate) fn chosen_answering(y: Exchange, s: Sending) -> Sending
     ensures { result ≡ chosen_answering y s }
 {
@@ -35,27 +36,25 @@ pub(crate) fn chosen_answering(y: Exchange, s: Sending) -> Sending
                 Sending::Mask(0)
             }
         }
-        Sending::Mask(_) => s,
-        Sending::Parameters(_) => s,
-        Sending::Done => s,
+        Sending::Mask(_) | Sending::Parameters(_) | Sending::Done => s,
     }
 }
 
-pub(crate) fn answered(m: Match, theirs: [u8; 5], own: [u8; 5]) -> [u8; 5]
+pub(crate) fn answered(m: Option<u8>, theirs: [u8; 5], own: [u8; 5]) -> [u8; 5]
     ensures { result ≡ answered m theirs own }
 {
     match m {
-        Match::Entry(_) => theirs,
-        Match::Nothing => own,
+        Some(_) => theirs,
+        None => own,
     }
 }
 
 // With the last byte sent an answerer opens if some entry equals the originator's values, else refuses 22.
-pub(crate) fn opens_on(m: Match) -> Fate
+pub(crate) fn opens_on(m: Option<u8>) -> Fate
     ensures { result ≡ opens_on m }
 {
     match m {
-        Match::Entry(i) => Fate::OpensSending(i),
-        Match::Nothing => Fate::Refuses(22),
+        Some(i) => Fate::OpensSending(i),
+        None => Fate::Refuses(22),
     }
 }

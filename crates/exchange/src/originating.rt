@@ -15,13 +15,7 @@ use protocol::{Exchange, Fate, Sending};
 fn all_sent(s: Sending) -> bool
     ensures { result ≡ all_sent s }
 {
-    match s {
-        Sending::Idle => false,
-        Sending::Hail(_) => false,
-        Sending::Mask(_) => false,
-        Sending::Parameters(_) => false,
-        Sending::Done => true,
-    }
+    matches!(s, Sending::Done)
 }
 
 // Its own all sent and the other's all received.
@@ -46,6 +40,7 @@ pub(crate) fn compared(b: Book, y: Exchange, opens: Fate) -> Fate
 
 // Sdidle until 16 contiguous Sgvi have come, then Sgvi; from the slot that settles the version, but after at least 16 Sgvi sent, the
 // identifier.
+#[tactic(auto, unfolding(protocol::specs::Exchange::chosen_originating, protocol::specs::Lengths::identifier_run))]
 pub(crate) fn chosen_originating(y: Exchange, s: Sending) -> Sending
     ensures { result ≡ chosen_originating y s }
 {
@@ -65,9 +60,7 @@ pub(crate) fn chosen_originating(y: Exchange, s: Sending) -> Sending
                 Sending::Hail(n)
             }
         }
-        Sending::Mask(_) => s,
-        Sending::Parameters(_) => s,
-        Sending::Done => s,
+        Sending::Mask(_) | Sending::Parameters(_) | Sending::Done => s,
     }
 }
 

@@ -9,21 +9,19 @@ use collecting::lengths::{GROUP_LENGTH, IDENTIFIER_RUN, all_parameter_bytes};
 use protocol::Sending;
 
 // Sgvi are counted up to 16.
+#[tactic(auto, unfolding(protocol::specs::Lengths::identifier_run))]
 fn hails_sent(n: u8) -> u8
     ensures { result ≡ min (n + 1) identifier_run }
 {
-    if n < IDENTIFIER_RUN {
-        n + 1
-    } else {
-        IDENTIFIER_RUN
-    }
+    n.saturating_add(1).min(IDENTIFIER_RUN)
 }
 
 // After its identifier an originator sends its parameters, an answerer Sdidle.
+#[tactic(auto, unfolding(protocol::specs::Exchange::advanced))]
 fn after_mask(b: Book, i: u8) -> Sending
     ensures { result ≡ advanced b (Sending.Mask i) }
 {
-    if i as u16 + 1 < GROUP_LENGTH as u16 {
+    if u16::from(i) + 1 < u16::from(GROUP_LENGTH) {
         Sending::Mask(i + 1)
     } else if originates(b) {
         Sending::Parameters(0)
@@ -32,10 +30,11 @@ fn after_mask(b: Book, i: u8) -> Sending
     }
 }
 
+#[tactic(auto, unfolding(protocol::specs::Exchange::advanced))]
 fn after_parameter(b: Book, i: u16) -> Sending
     ensures { result ≡ advanced b (Sending.Parameters i) }
 {
-    if i as u32 + 1 < all_parameter_bytes(b) as u32 {
+    if u32::from(i) + 1 < u32::from(all_parameter_bytes(b)) {
         Sending::Parameters(i + 1)
     } else {
         Sending::Done
@@ -43,15 +42,15 @@ fn after_parameter(b: Book, i: u16) -> Sending
 }
 
 // What is to be sent after that byte.
+#[tactic(auto, unfolding(protocol::specs::Exchange::advanced))]
 pub(crate) fn advanced(b: Book, s: Sending) -> Sending
     ensures { result ≡ advanced b s }
 {
     match s {
-        Sending::Idle => s,
+        Sending::Idle | Sending::Done => s,
         Sending::Hail(n) => Sending::Hail(hails_sent(n)),
         Sending::Mask(i) => after_mask(b, i),
         Sending::Parameters(i) => after_parameter(b, i),
-        Sending::Done => s,
     }
 }
 
@@ -59,24 +58,12 @@ pub(crate) fn advanced(b: Book, s: Sending) -> Sending
 pub(crate) fn last_of_mask(s: Sending) -> bool
     ensures { result ≡ last_of_mask s }
 {
-    match s {
-        Sending::Idle => false,
-        Sending::Hail(_) => false,
-        Sending::Mask(i) => GROUP_LENGTH as u16 <= i as u16 + 1,
-        Sending::Parameters(_) => false,
-        Sending::Done => false,
-    }
+    matches!(s, Sending::Mask(i) if u16::from(GROUP_LENGTH) <= u16::from(i) + 1)
 }
 
 // The own last byte.
 pub(crate) fn last_of_all(b: Book, s: Sending) -> bool
     ensures { result ≡ last_of_all b s }
 {
-    match s {
-        Sending::Idle => false,
-        Sending::Hail(_) => false,
-        Sending::Mask(_) => false,
-        Sending::Parameters(i) => all_parameter_bytes(b) as u32 <= i as u32 + 1,
-        Sending::Done => false,
-    }
+    matches!(s, Sending::Parameters(i) if u32::from(all_parameter_bytes(b)) <= u32::from(i) + 1)
 }

@@ -2,15 +2,15 @@
 ghost use Rattle.std.specs.Prelude.{◌≡◌, get_or};
 ghost use Rattle.channel.specs.Bytes.{byte, sgp};
 ghost use Rattle.protocol.specs.Sent.{group_byte, byte_sent, parameter_sent};
-ghost use Rattle.protocol.specs.Exchange.{matched, mask_sent, values_sent, sent_as};
+ghost use Rattle.protocol.specs.Exchange.{mask_sent, values_sent, sent_as};
 
 use crate::answering::answered;
-use crate::matching::{heard_params, params_of};
+use crate::matching::{Acted, heard_params, params_of};
 use book::Book;
 use channel::byte::ChannelByte;
 use collecting::kept_book::{entry_of, identifier, originates};
 use collecting::lengths::{parameter_bytes, parameter_lead};
-use protocol::{Exchange, Hearing, Match, Sending};
+use protocol::Sending;
 
 // Three DL DH pairs.
 fn group_byte(place: u16, value: u8) -> ChannelByte
@@ -40,16 +40,16 @@ fn sgp(k: u16) -> ChannelByte
 fn value_at(values: [u8; 5], k: u16) -> u8
     ensures { result ≡ get_or values k 0 }
 {
-    let at = k as usize;
-    if at < 5 { values[at] } else { 0 }
+    values.get(usize::from(k)).copied().unwrap_or(0)
 }
 
 // Byte i of the five parameters, each 32 Sgpk and its group.
+#[tactic(auto, unfolding(protocol::specs::Sent::byte_sent, protocol::specs::Sent::parameter_sent))]
 fn parameter_byte(b: Book, values: [u8; 5], i: u16) -> ChannelByte
     ensures { result ≡ byte (byte_sent (parameter_sent b values i)) }
 {
     let length = parameter_bytes(b);
-    let lead = parameter_lead(b) as u16;
+    let lead = u16::from(parameter_lead(b));
     let k = i / length;
     let place = i % length;
     if place < lead {
@@ -71,28 +71,25 @@ fn mask_sent(b: Book, version: u8) -> u8
 }
 
 // The originator's values if some entry equals them, else those of entry 0; an originator's are those of entry 0.
-fn values_sent(b: Book, version: u8, h: Hearing, m: Match) -> [u8; 5]
-    requires { m ≡ matched b version h }
-    ensures { result ≡ values_sent b version h }
+fn values_sent(y: Acted) -> [u8; 5]
+    ensures { result ≡ values_sent y.book y.exchange.version y.exchange.hearing }
 {
-    let own = params_of(entry_of(b, 0));
-    if originates(b) {
+    let own = params_of(entry_of(y.book, 0));
+    if originates(y.book) {
         own
     } else {
-        answered(m, heard_params(h), own)
+        answered(y.entry, heard_params(y.exchange.hearing), own)
     }
 }
 
-pub(crate) fn byte_sent(b: Book, y: Exchange, s: Sending, m: Match) -> ChannelByte
-    requires { m ≡ matched b y.version y.hearing }
-    ensures { result ≡ byte (byte_sent (sent_as b y s)) }
+#[tactic(auto, unfolding(protocol::specs::Sent::byte_sent, protocol::specs::Exchange::sent_as))]
+pub(crate) fn byte_sent(y: Acted, s: Sending) -> ChannelByte
+    ensures { result ≡ byte (byte_sent (sent_as y.book y.exchange s)) }
 {
-    let hearing = y.hearing;
     match s {
-        Sending::Idle => ChannelByte::SDIDLE,
+        Sending::Idle | Sending::Done => ChannelByte::SDIDLE,
         Sending::Hail(_) => ChannelByte::SGVI,
-        Sending::Mask(i) => group_byte(i as u16, mask_sent(b, y.version)),
-        Sending::Parameters(i) => { parameter_byte(b, values_sent(b, y.version, hearing, m), i) }
-        Sending::Done => ChannelByte::SDIDLE,
+        Sending::Mask(i) => group_byte(u16::from(i), mask_sent(y.book, y.exchange.version)),
+        Sending::Parameters(i) => parameter_byte(y.book, values_sent(y), i),
     }
 }

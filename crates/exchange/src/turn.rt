@@ -1,12 +1,12 @@
 // One slot of the exchange, answering and originating, but for the clock.
 ghost use Rattle.std.specs.Prelude.{◌≡◌, cond};
 ghost use Rattle.channel.specs.Bytes.{byte, sdidle};
-ghost use Rattle.protocol.specs.Exchange.{originates, first_exchange, matched, fate_heard, chosen, fate_sent, sends, turn};
+ghost use Rattle.protocol.specs.Exchange.{originates, first_exchange, fate_heard, chosen, fate_sent, sends, turn};
 ghost use Rattle.exchange.specs.Made.{made};
 
 use crate::acting::acted;
 use crate::answering::{chosen_answering, opens_on, settles_none};
-use crate::matching::matched;
+use crate::matching::Acted;
 use crate::originating::{
     all_exchanged, chosen_originating, compared, last_exchanged, last_of_zero_mask,
 };
@@ -17,7 +17,7 @@ use channel::byte::ChannelByte;
 use channel::kind::Kind;
 use collecting::hearing::NO_NIBBLES;
 use collecting::kept_book::originates;
-use protocol::{Awaited, Exchange, Fate, Hearing, Match, Sending};
+use protocol::{Awaited, Exchange, Fate, Hearing, Sending};
 
 // One slot of the exchange: the state after it, what becomes of the exchange, and the byte sent.
 #[derive(Clone, Copy)]
@@ -38,6 +38,7 @@ fn first_sending(b: Book) -> Sending
 }
 
 // Nothing has come yet; an answerer sends Sgvi, an originator Sdidle.
+#[tactic(auto, unfolding(protocol::specs::Exchange::first_exchange))]
 pub fn first_exchange(b: Book) -> Exchange
     ensures { result ≡ first_exchange b }
 {
@@ -54,6 +55,7 @@ pub fn first_exchange(b: Book) -> Exchange
 }
 
 // What the received byte brings about. Answering: no version, 21. Originating: its own all sent and the other's all received.
+#[tactic(auto, unfolding(protocol::specs::Exchange::fate_heard))]
 fn fate_heard(b: Book, x: Exchange, y: Exchange) -> Fate
     ensures { result ≡ fate_heard b x y }
 {
@@ -82,40 +84,38 @@ fn chosen(b: Book, y: Exchange) -> Sending
 }
 
 // What the byte sent brings about. Originating: 21 with the sixth byte of 00; all sent and all received.
-fn fate_sent(b: Book, y: Exchange, s: Sending, m: Match) -> Fate
-    requires { m ≡ matched b y.version y.hearing }
-    ensures { result ≡ fate_sent b y s }
+#[tactic(auto, unfolding(protocol::specs::Exchange::fate_sent))]
+fn fate_sent(y: Acted, s: Sending) -> Fate
+    ensures { result ≡ fate_sent y.book y.exchange s }
 {
-    if originates(b) {
-        if last_of_zero_mask(y, s) {
+    if originates(y.book) {
+        if last_of_zero_mask(y.exchange, s) {
             Fate::Refuses(21)
-        } else if last_exchanged(b, y, s) {
-            compared(b, y, Fate::OpensSending(0))
+        } else if last_exchanged(y.book, y.exchange, s) {
+            compared(y.book, y.exchange, Fate::OpensSending(0))
         } else {
             Fate::Stays
         }
-    } else if last_of_all(b, s) {
-        opens_on(m)
+    } else if last_of_all(y.book, s) {
+        opens_on(y.entry)
     } else {
         Fate::Stays
     }
 }
 
-// A byte is sent. The entries are gone over once, for the values and for the fate.
+// A byte is sent.
+#[tactic(auto, unfolding(protocol::specs::Exchange::sends))]
 fn sends(b: Book, y: Exchange, s: Sending) -> TurnMade
     ensures { result ≡ made (sends b y s) }
 {
-    let hearing = y.hearing;
-    let m = matched(b, y.version, hearing);
-    let exchange = Exchange {
-        hearing,
-        version: y.version,
-        sending: advanced(b, s),
-    };
+    let acted = Acted::new(b, y);
     TurnMade {
-        exchange,
-        fate: fate_sent(b, y, s, m),
-        sent: byte_sent(b, y, s, m),
+        exchange: Exchange {
+            sending: advanced(b, s),
+            ..y
+        },
+        fate: fate_sent(acted, s),
+        sent: byte_sent(acted, s),
     }
 }
 
@@ -131,6 +131,7 @@ fn ended(y: Exchange, fate: Fate) -> TurnMade
 }
 
 // First the byte acts, then the byte to send is chosen from the new state.
+#[tactic(auto, unfolding(protocol::specs::Exchange::turn, protocol::specs::Sent::byte_sent))]
 pub fn turn(b: Book, x: Exchange, k: Kind) -> TurnMade
     ensures { result ≡ made (turn b x k) }
 {
@@ -138,8 +139,6 @@ pub fn turn(b: Book, x: Exchange, k: Kind) -> TurnMade
     let fate = fate_heard(b, x, y);
     match fate {
         Fate::Stays => sends(b, y, chosen(b, y)),
-        Fate::OpensHearing(_) => ended(y, fate),
-        Fate::OpensSending(_) => ended(y, fate),
-        Fate::Refuses(_) => ended(y, fate),
+        Fate::OpensHearing(_) | Fate::OpensSending(_) | Fate::Refuses(_) => ended(y, fate),
     }
 }

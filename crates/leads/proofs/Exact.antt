@@ -1,5 +1,6 @@
 -- The slots that leads wait are exact, and so is the third of three slots: states from which they take as long. Each is computed.
 -- Assumes nothing.
+use Rattle.std.specs.Prelude.{Some, None}
 use mathlib.Core.Path.{◌≡◌, refl}
 use mathlib.Core.Bool.{Bool, true, false}
 use mathlib.Core.List.{[], ◌∷◌, map}
@@ -7,13 +8,11 @@ use Prim.Native.Nat.{ℕ, ◌-◌}
 use Rattle.channel.specs.declared.byte.Leads.{Leads}
 use Rattle.channel.specs.declared.unit.Form.TheVariants.{Six}
 use Rattle.protocol.specs.Opened.{drive_with, outbound_of, idle_leads, changed, writing}
-use Rattle.protocol.specs.declared.Half.TheVariants.{Empty}
 use Rattle.protocol.specs.declared.Shape.{Shape}
 use Rattle.protocol.specs.declared.Shape.TheVariants as shape
 use Rattle.protocol.specs.declared.Claim.{Claim}
 use Rattle.protocol.specs.declared.Claim.TheVariants.{Free, Second}
 use Rattle.protocol.specs.declared.Outbound.{Outbound}
-use Rattle.protocol.specs.declared.Offer.TheVariants as offer
 use Rattle.protocol.specs.declared.Drive.{Drive}
 use Rattle.protocol.proofs.Computing.{moving}
 use Rattle.protocol.proofs.Delivery.OpenRuns.{outs}
@@ -24,7 +23,7 @@ abbrev ready : Leads
 ready = record { s0 = false; s1 = false; s2 = true; s3 = true }
 
 abbrev offering : ℕ → Drive
-offering n = drive_with ready false (offer.Unit 0x21)
+offering n = drive_with ready false (Some 0x21)
 
 -- a second Sd is due with the leads of Sdidle, which the last two Sd had; the one before the last had BK on or off
 abbrev due : Claim
@@ -32,7 +31,7 @@ due = Second idle_leads
 
 abbrev begun : Shape → Claim → Bool → ℕ → Outbound
 begun s c bk n =
-    outs s offering (outbound_of 16 Empty c (record { leads = idle_leads; bk = false }) (record { leads = idle_leads; bk = bk })) n
+    outs s offering (outbound_of 16 None c (record { leads = idle_leads; bk = false }) (record { leads = idle_leads; bk = bk })) n
 
 -- form 6, nobody having a claim: whether a slot asks, and whether it takes its unit
 abbrev slot : ℕ → Bool × Bool

@@ -1,4 +1,5 @@
 -- Leads that are given without a change stand at the far end d slots after they are out, and from then on. Assumes nothing.
+use Rattle.std.specs.Prelude.{Option, Some, None}
 use mathlib.Core.Path.{◌≡◌, refl, sym, ap, ◌∙◌, subst}
 use mathlib.Core.Bool.{true, false, not, ◌&&◌}
 use mathlib.Core.Logic.{inr}
@@ -19,8 +20,6 @@ use Rattle.protocol.specs.Delivery.{signals_of, CarriesOver}
 use Rattle.protocol.specs.declared.Shape.{Shape}
 use Rattle.protocol.specs.declared.Outbound.{Outbound}
 use Rattle.protocol.specs.declared.Endpoint.{Endpoint}
-use Rattle.protocol.specs.declared.Offer.{Offer}
-use Rattle.protocol.specs.declared.Offer.TheVariants as offer
 use Rattle.protocol.specs.declared.Drive.{Drive}
 use Rattle.protocol.proofs.Kept.WritingKept.{Fits, OutboundIn, parts, next_kept, fresh_outbound}
 use Rattle.protocol.proofs.Delivery.OpenRuns.{outs}
@@ -53,9 +52,9 @@ module _ (d : ℕ) (s : Shape) (x : ℕ) (sender : Endpoint) (hs : ℕ → ℕ) 
   fits : (n : ℕ) → Fits s (g n).offer
   fits n = go (g n).offer refl
     where
-      go : (f : Offer) → (g n).offer ≡ f → Fits s f
-      go offer.Nothing e = tt
-      go (offer.Unit u) e = sends.allowed n u e
+      go : (f : Option ℕ) → (g n).offer ≡ f → Fits s f
+      go None e = tt
+      go (Some u) e = sends.allowed n u e
 
   in_range : (n : ℕ) → OutboundIn s (o n)
   unfolding outs

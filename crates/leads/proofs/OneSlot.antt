@@ -1,4 +1,5 @@
 -- What goes in a slot after the first 16 Sd in form 0 or 6, one case a rule. Assumes nothing.
+use Rattle.std.specs.Prelude.{Option, Some, None}
 use mathlib.Core.Path.{◌≡◌, refl, sym, ◌∙◌}
 use mathlib.Core.Bool.{Bool, true, false, not, ◌&&◌}
 use mathlib.Core.Logic.{◌⊎◌, inl, inr}
@@ -12,15 +13,11 @@ use Rattle.channel.specs.declared.unit.Form.{Form}
 use Rattle.protocol.specs.Sent.{Sent}
 use Rattle.protocol.specs.Opened.{Writing, is_word, pair_form, has_pair, opening_sd, writes, writes_sd, writes_given, writes_word, writes_unit, writes_offer, changed, writes_claim, held, writes_due, writes_data, writing}
 use Rattle.protocol.specs.Ranges.{due_in, none_due, claim_in}
-use Rattle.protocol.specs.declared.Half.{Half}
-use Rattle.protocol.specs.declared.Half.TheVariants.{Empty, Holds}
 use Rattle.protocol.specs.declared.Shape.{Shape}
 use Rattle.protocol.specs.declared.Shape.TheVariants as shape
 use Rattle.protocol.specs.declared.Claim.{Claim}
 use Rattle.protocol.specs.declared.Claim.TheVariants.{Free, Second, Owed}
 use Rattle.protocol.specs.declared.Outbound.{Outbound}
-use Rattle.protocol.specs.declared.Offer.{Offer}
-use Rattle.protocol.specs.declared.Offer.TheVariants as offer
 use Rattle.protocol.specs.declared.Drive.{Drive}
 use Rattle.protocol.proofs.Kept.WritingKept.{OutboundIn}
 use Rattle.leads.specs.LeadsAhead.{past_sd}
@@ -32,7 +29,7 @@ clash p q = let z : true ≡ false = sym p ∙ q in let w : ◌≡◌ {A = ℕ} 
 
 -- neither a DH due nor the break rule comes first
 pub record Clear (s : Shape) (o : Outbound) (g : Drive) : Type 0 where
-  pub none : o.due ≡ Empty
+  pub none : o.due ≡ None
   pub rule : (is_word s && held g.flag o.last.bk o.before.bk) ≡ false
 
 -- leads do not claim the line: a unit is owed it, or they are as in the last two Sd
@@ -41,27 +38,27 @@ Gives o g = (o.claim ≡ Owed) ⊎ ((o.claim ≡ Free) × (changed g.leads o ≡
 
 pub data Goes (s : Shape) (o : Outbound) (g : Drive) : Writing → Type 0 where
   -- 1
-  high : none_due o.due ≡ false → o.claim ≡ Free → (sent : Sent) → NoSd sent → Goes s o g (writes o o.opening Empty sent false)
+  high : none_due o.due ≡ false → o.claim ≡ Free → (sent : Sent) → NoSd sent → Goes s o g (writes o o.opening None sent false)
   -- 2
-  broken : is_word s ≡ true → o.due ≡ Empty → held g.flag o.last.bk o.before.bk ≡ true → Goes s o g (writes_given s o g)
+  broken : is_word s ≡ true → o.due ≡ None → held g.flag o.last.bk o.before.bk ≡ true → Goes s o g (writes_given s o g)
   -- 3
   second : (leads : Leads) → Clear s o g → o.claim ≡ Second leads → Goes s o g (writes_sd s o o.opening Owed leads g)
   -- 4
   first : Clear s o g → o.claim ≡ Free → changed g.leads o ≡ true → Goes s o g (writes_sd s o o.opening (Second g.leads) g.leads g)
   -- 5
-  takes : Clear s o g → Gives o g → (u : ℕ) → g.offer ≡ offer.Unit u → (due : Half) → none_due due ≡ not (is_word s) → (sent : Sent)
+  takes : Clear s o g → Gives o g → (u : ℕ) → g.offer ≡ Some u → (due : Option ℕ) → none_due due ≡ not (is_word s) → (sent : Sent)
       → NoSd sent → Goes s o g (writes o o.opening due sent true)
   -- 6
-  idles : Clear s o g → Gives o g → g.offer ≡ offer.Nothing → Goes s o g (writes_given s o g)
+  idles : Clear s o g → Gives o g → g.offer ≡ None → Goes s o g (writes_given s o g)
 
 -- in form 6 no DH is ever due
-unit_due : (s : Shape) (opening : ℕ) (d : Half) → due_in s opening d ≡ true → is_word s ≡ false → d ≡ Empty
-unit_due s opening Empty e u = refl
-unit_due (shape.Word w) opening (Holds h) e u = cc
-unit_due (shape.Unit f) opening (Holds h) e u = cc
+unit_due : (s : Shape) (opening : ℕ) (d : Option ℕ) → due_in s opening d ≡ true → is_word s ≡ false → d ≡ None
+unit_due s opening None e u = refl
+unit_due (shape.Word w) opening (Some h) e u = cc
+unit_due (shape.Unit f) opening (Some h) e u = cc
 
 -- where a DH is due, nobody has a claim
-due_free : (s : Shape) (opening : ℕ) (due : Half) (c : Claim) → claim_in s opening due c ≡ true → none_due due ≡ false → c ≡ Free
+due_free : (s : Shape) (opening : ℕ) (due : Option ℕ) (c : Claim) → claim_in s opening due c ≡ true → none_due due ≡ false → c ≡ Free
 due_free s opening due Free e n = refl
 due_free s opening due (Second leads) e n = clash (both_right (not (has_pair s) && leb opening_sd opening) (none_due due) e) n
 due_free s opening due Owed e n = clash (both_right (not (has_pair s) && leb opening_sd opening) (none_due due) e) n
@@ -70,14 +67,14 @@ due_claim : {s : Shape} {o : Outbound} → OutboundIn s o → none_due o.due ≡
 due_claim {s} {o} i n = due_free s o.opening o.due o.claim i.claim n
 
 module _ (o : Outbound) (g : Drive) where
-  word_goes : (w : ℕ) → Clear (shape.Word w) o g → Gives o g → (x : Offer) → g.offer ≡ x → Goes (shape.Word w) o g (writes_word w o g x)
-  word_goes w f y offer.Nothing e = idles f y e
-  word_goes w f y (offer.Unit u) e = takes f y u e _ refl _ (shown_dl u)
+  word_goes : (w : ℕ) → Clear (shape.Word w) o g → Gives o g → (x : Option ℕ) → g.offer ≡ x → Goes (shape.Word w) o g (writes_word w o g x)
+  word_goes w f y None e = idles f y e
+  word_goes w f y (Some u) e = takes f y u e _ refl _ (shown_dl u)
 
-  unit_goes : (f : Form) → pair_form f ≡ false → Clear (shape.Unit f) o g → Gives o g → (x : Offer) → g.offer ≡ x
+  unit_goes : (f : Form) → pair_form f ≡ false → Clear (shape.Unit f) o g → Gives o g → (x : Option ℕ) → g.offer ≡ x
       → Goes (shape.Unit f) o g (writes_unit f o g x)
-  unit_goes f p q y offer.Nothing e = rw p (idles q y e)
-  unit_goes f p q y (offer.Unit u) e = takes q y u e _ refl _ (λ h. refl)
+  unit_goes f p q y None e = rw p (idles q y e)
+  unit_goes f p q y (Some u) e = takes q y u e _ refl _ (λ h. refl)
 
   offer_goes : (s : Shape) → has_pair s ≡ false → Clear s o g → Gives o g → Goes s o g (writes_offer s o g g.offer)
   offer_goes (shape.Word w) p f y = word_goes w f y g.offer refl
@@ -89,9 +86,9 @@ module _ (o : Outbound) (g : Drive) where
   claim_goes s p f Free e =
       by_test (Goes s o g) (changed g.leads o) (λ t. first f e t) (λ t. offer_goes s p f (inr (e, t)))
 
-  due_goes : (w : ℕ) → OutboundIn (shape.Word w) o → (d : Half) → o.due ≡ d → Goes (shape.Word w) o g (writes_due w o g d)
-  due_goes w i (Holds h) e = let n : none_due o.due ≡ false = rw e refl in high n (due_claim i n) _ (shown_dh h)
-  due_goes w i Empty e =
+  due_goes : (w : ℕ) → OutboundIn (shape.Word w) o → (d : Option ℕ) → o.due ≡ d → Goes (shape.Word w) o g (writes_due w o g d)
+  due_goes w i (Some h) e = let n : none_due o.due ≡ false = rw e refl in high n (due_claim i n) _ (shown_dh h)
+  due_goes w i None e =
       by_test (Goes (shape.Word w) o g) (held g.flag o.last.bk o.before.bk) (λ t. broken refl e t)
       (λ t. claim_goes (shape.Word w) refl (record { none = e; rule = t }) o.claim refl)
 

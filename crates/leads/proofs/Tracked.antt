@@ -1,5 +1,6 @@
 -- A slot of an open end, in whatever form: an Sd that goes is the last of the last two from then on, and no other byte changes them.
 -- Assumes nothing.
+use Rattle.std.specs.Prelude.{Option, Some, None}
 use mathlib.Core.Path.{◌≡◌, refl, ap}
 use mathlib.Core.Bool.{Bool, true, false, cond}
 use Prim.Native.Nat.{ℕ, ◌+◌, ◌≤◌}
@@ -13,15 +14,11 @@ use Rattle.channel.proofs.ReadBack.{sd_read}
 use Rattle.protocol.specs.Sent.{Alone}
 use Rattle.protocol.specs.Opened.{Writing, pair_form, has_pair, opening_sd, opening_bytes, bk_sent, writes_sd, writes_opening, writes_word, writes_unit, writes_offer, changed, writes_claim, held, writes_due, writes_data, writing}
 use Rattle.protocol.specs.Carried.{Shown, shown_kind, shown_next}
-use Rattle.protocol.specs.declared.Half.{Half}
-use Rattle.protocol.specs.declared.Half.TheVariants.{Empty, Holds}
 use Rattle.protocol.specs.declared.Shape.{Shape}
 use Rattle.protocol.specs.declared.Shape.TheVariants as shape
 use Rattle.protocol.specs.declared.Claim.{Claim}
 use Rattle.protocol.specs.declared.Claim.TheVariants.{Free, Second, Owed}
 use Rattle.protocol.specs.declared.Outbound.{Outbound}
-use Rattle.protocol.specs.declared.Offer.{Offer}
-use Rattle.protocol.specs.declared.Offer.TheVariants as offer
 use Rattle.protocol.specs.declared.Drive.{Drive}
 use Rattle.protocol.proofs.Computing.{moving}
 use Rattle.leads.proofs.DataShown.{shown_dl, shown_dh}
@@ -53,13 +50,13 @@ module _ (o : Outbound) (g : Drive) (h : Shown) where
     given_tracked : (s : Shape) (c : Claim) (leads : Leads) → Tracked o h (writes_sd s o o.opening c leads g)
     given_tracked s c leads = sd_tracked s o.opening c leads (omega arith)
 
-    word_tracked : (w : ℕ) (x : Offer) → Tracked o h (writes_word w o g x)
-    word_tracked w offer.Nothing = given_tracked (shape.Word w) o.claim g.leads
-    word_tracked w (offer.Unit u) = other (shown_dl u h) refl refl past
+    word_tracked : (w : ℕ) (x : Option ℕ) → Tracked o h (writes_word w o g x)
+    word_tracked w None = given_tracked (shape.Word w) o.claim g.leads
+    word_tracked w (Some u) = other (shown_dl u h) refl refl past
 
-    unit_tracked : (f : Form) (x : Offer) → Tracked o h (writes_unit f o g x)
-    unit_tracked f (offer.Unit u) = other refl refl refl past
-    unit_tracked f offer.Nothing =
+    unit_tracked : (f : Form) (x : Option ℕ) → Tracked o h (writes_unit f o g x)
+    unit_tracked f (Some u) = other refl refl refl past
+    unit_tracked f None =
         either_way (Tracked o h) (pair_form f) (other refl refl refl past) (given_tracked (shape.Unit f) o.claim g.leads)
 
     offer_tracked : (s : Shape) → Tracked o h (writes_offer s o g g.offer)
@@ -71,9 +68,9 @@ module _ (o : Outbound) (g : Drive) (h : Shown) where
     claim_tracked s Owed = offer_tracked s
     claim_tracked s Free = either_way (Tracked o h) (changed g.leads o) (given_tracked s (Second g.leads) g.leads) (offer_tracked s)
 
-    due_tracked : (w : ℕ) (d : Half) → Tracked o h (writes_due w o g d)
-    due_tracked w (Holds high) = other (shown_dh high h) refl refl past
-    due_tracked w Empty =
+    due_tracked : (w : ℕ) (d : Option ℕ) → Tracked o h (writes_due w o g d)
+    due_tracked w (Some high) = other (shown_dh high h) refl refl past
+    due_tracked w None =
         either_way (Tracked o h) (held g.flag o.last.bk o.before.bk) (given_tracked (shape.Word w) o.claim g.leads)
         (claim_tracked (shape.Word w) o.claim)
 

@@ -1,4 +1,5 @@
 -- Leads that are given without a change are in the last two Sd after so many slots at most: each slot brings them nearer. Assumes nothing.
+use Rattle.std.specs.Prelude.{None}
 use mathlib.Core.Path.{◌≡◌, refl, sym, subst}
 use mathlib.Core.Bool.{Bool, true, false, cond, not, ◌&&◌, beq}
 use mathlib.Core.Logic.{◌⊎◌, inl, inr}
@@ -10,7 +11,6 @@ use Rattle.ground.proofs.Test.{by_test, both_left, both_right}
 use Rattle.channel.specs.declared.byte.Leads.{Leads}
 use Rattle.protocol.specs.Opened.{Writing, is_word, same_leads, changed, writes_sd, writes_given, writing}
 use Rattle.protocol.specs.Ranges.{none_due}
-use Rattle.protocol.specs.declared.Half.TheVariants.{Empty}
 use Rattle.protocol.specs.declared.Shape.{Shape}
 use Rattle.protocol.specs.declared.Shape.TheVariants as shape
 use Rattle.protocol.specs.declared.Claim.{Claim}
@@ -134,7 +134,7 @@ module _ (s : Shape) (l : Leads) (o : Outbound) (g : Drive) (e : g.leads ≡ l) 
   now_same : same_leads l g.leads ≡ true
   now_same = rw e (same_leads_lem l)
 
-  given_less : (w : Writing) → w.outbound.last.leads ≡ g.leads → w.outbound.before ≡ o.last → o.due ≡ Empty → w.outbound.due ≡ Empty
+  given_less : (w : Writing) → w.outbound.last.leads ≡ g.leads → w.outbound.before ≡ o.last → o.due ≡ None → w.outbound.due ≡ None
       → left_at (longer s) l true w.outbound.claim true < left_at (longer s) l true o.claim false → Less w
   given_less w p q d f less = go (same_leads l o.last.leads) refl
     where

@@ -1,6 +1,6 @@
 -- Leads ahead of data, in forms 0 and 6, for the slots after the first 16 Sd: chattering leads can't stop the data, and steady leads arrive.
 -- Assumes nothing.
-use Rattle.std.specs.Prelude.{◌≡◌, Bool, true, false, not, ◌&&◌, ◌⊎◌, ℕ, ◌+◌, ◌-◌, ◌≤◌, ◌<◌, leb}
+use Rattle.std.specs.Prelude.{◌≡◌, Bool, true, false, not, ◌&&◌, ◌⊎◌, ℕ, ◌+◌, ◌-◌, ◌≤◌, ◌<◌, leb, Option, Some, None}
 use Rattle.book.specs.declared.Book.{Book}
 use Rattle.book.specs.Kept.{book_ok}
 use Rattle.channel.specs.declared.byte.Leads.{Leads}
@@ -21,8 +21,6 @@ use Rattle.protocol.specs.declared.Line.{Line}
 use Rattle.protocol.specs.declared.Phase.{Phase}
 use Rattle.protocol.specs.declared.Phase.TheVariants.{Exchanging, Open, Refused}
 use Rattle.protocol.specs.declared.Endpoint.{Endpoint}
-use Rattle.protocol.specs.declared.Offer.{Offer}
-use Rattle.protocol.specs.declared.Offer.TheVariants as offer
 use Rattle.protocol.specs.declared.Drive.{Drive}
 
 -- Slots after the first 16 Sd of an end that is open in form 0 or 6.
@@ -31,9 +29,9 @@ abbrev pub past_sd : Shape → Outbound → Bool
 past_sd s o = not (has_pair s) && leb opening_sd o.opening
 
 -- such a slot that is free of the break rule and of a DH due, and in which a unit is offered
-abbrev pub is_offered : Offer → Bool
-is_offered offer.Nothing = false
-is_offered (offer.Unit u) = true
+abbrev pub is_offered : Option ℕ → Bool
+is_offered None = false
+is_offered (Some u) = true
 
 abbrev pub is_free : Shape → Outbound → Drive → Bool
 is_free s o g = none_due o.due && not (is_word s && held g.flag o.last.bk o.before.bk)

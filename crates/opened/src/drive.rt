@@ -5,9 +5,9 @@ ghost use Rattle.protocol.specs.Joined.{idle};
 
 use crate::line::idle_leads;
 use channel::byte::Leads;
-use protocol::{Drive, Offer};
+use protocol::Drive;
 
-pub fn drive_with(leads: Leads, flag: bool, offer: Offer) -> Drive
+pub fn drive_with(leads: Leads, flag: bool, offer: Option<u8>) -> Drive
     ensures { result ≡ drive_with leads flag offer }
 {
     Drive { leads, flag, offer }
@@ -17,5 +17,5 @@ pub fn drive_with(leads: Leads, flag: bool, offer: Offer) -> Drive
 pub fn idle() -> Drive
     ensures { result ≡ idle }
 {
-    drive_with(idle_leads(), false, Offer::Nothing)
+    drive_with(idle_leads(), false, None)
 }

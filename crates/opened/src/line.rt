@@ -3,10 +3,16 @@ ghost use Rattle.std.specs.Prelude.{◌≡◌};
 ghost use Rattle.protocol.specs.Opened.{outbound_of, inbound_of, idle_leads, idle_signals, fresh_line};
 
 use channel::byte::Leads;
-use protocol::{Claim, Half, Inbound, Line, Outbound, Signals};
+use protocol::{Claim, Inbound, Line, Outbound, Signals};
 
 // The sending half.
-pub fn outbound_of(opening: u8, due: Half, claim: Claim, last: Signals, before: Signals) -> Outbound
+pub fn outbound_of(
+    opening: u8,
+    due: Option<u8>,
+    claim: Claim,
+    last: Signals,
+    before: Signals,
+) -> Outbound
     ensures { result ≡ outbound_of opening due claim last before }
 {
     Outbound {
@@ -19,7 +25,7 @@ pub fn outbound_of(opening: u8, due: Half, claim: Claim, last: Signals, before: 
 }
 
 // The receiving half.
-pub fn inbound_of(half: Half, pair: u8, last: Signals, standing: Signals) -> Inbound
+pub fn inbound_of(half: Option<u8>, pair: u8, last: Signals, standing: Signals) -> Inbound
     ensures { result ≡ inbound_of half pair last standing }
 {
     Inbound {
@@ -52,11 +58,12 @@ fn idle_signals() -> Signals
 }
 
 // At the opening nothing has gone, and it is as if two Sdidle had gone and two had come.
+#[tactic(auto, unfolding(protocol::specs::Opened::fresh_line))]
 pub fn fresh_line() -> Line
     ensures { result ≡ fresh_line }
 {
     let idle = idle_signals();
-    let outbound = outbound_of(0, Half::Empty, Claim::Free, idle, idle);
-    let inbound = inbound_of(Half::Empty, 0, idle, idle);
+    let outbound = outbound_of(0, None, Claim::Free, idle, idle);
+    let inbound = inbound_of(None, 0, idle, idle);
     Line { outbound, inbound }
 }

@@ -11,25 +11,21 @@ use protocol::Shape;
 pub const OPENING_SD: u8 = 16;
 
 // How an entry's data is laid on a version.
+#[tactic(auto, unfolding(protocol::specs::Opened::shape_of))]
 pub fn shape_of(e: Entry, version: u8) -> Shape
     ensures { result ≡ shape_of e version }
 {
-    if e.form == 0 {
-        return Shape::Word(e.w);
+    match (e.form, version) {
+        (0, _) => Shape::Word(e.w),
+        (6, _) => Shape::Unit(Form::Six),
+        (7, 1) => Shape::Unit(Form::SevenV1),
+        (7, _) => Shape::Unit(Form::SevenV2),
+        _ => Shape::Unit(Form::Eight),
     }
-    if e.form == 6 {
-        return Shape::Unit(Form::Six);
-    }
-    if e.form == 7 {
-        if version == 1 {
-            return Shape::Unit(Form::SevenV1);
-        }
-        return Shape::Unit(Form::SevenV2);
-    }
-    Shape::Unit(Form::Eight)
 }
 
 // Whether the shape has that unit.
+#[tactic(auto, unfolding(protocol::specs::Opened::has_unit))]
 pub fn has_unit(s: Shape, u: u8) -> bool
     ensures { result ≡ has_unit s u }
 {
@@ -42,31 +38,20 @@ pub fn has_unit(s: Shape, u: u8) -> bool
 pub fn is_word(s: Shape) -> bool
     ensures { result ≡ is_word s }
 {
-    match s {
-        Shape::Word(_) => true,
-        Shape::Unit(_) => false,
-    }
+    matches!(s, Shape::Word(_))
 }
 
 // Forms 7 and 8 have the pair after the first 16 bytes.
 pub fn pair_form(f: Form) -> bool
     ensures { result ≡ pair_form f }
 {
-    match f {
-        Form::Six => false,
-        Form::SevenV1 => true,
-        Form::SevenV2 => true,
-        Form::Eight => true,
-    }
+    matches!(f, Form::SevenV1 | Form::SevenV2 | Form::Eight)
 }
 
 pub fn has_pair(s: Shape) -> bool
     ensures { result ≡ has_pair s }
 {
-    match s {
-        Shape::Word(_) => false,
-        Shape::Unit(f) => pair_form(f),
-    }
+    matches!(s, Shape::Unit(f) if pair_form(f))
 }
 
 // How many bytes go before data.

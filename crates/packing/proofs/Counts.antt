@@ -1,7 +1,7 @@
 -- How many units octets need and how many octets units hold: bounds, each other's inverse, and no product too large. Assumes nothing.
-use mathlib.Core.Path.{◌≡◌, ap, sym, ◌∙◌}
-use Prim.Native.Nat.{ℕ, ◌+◌, ◌*◌, ◌-◌, ◌/◌, ◌%◌, ◌^◌, ◌≤◌, ◌<◌}
-use native.Mathlib.Nat.{mul-add, mul_left_comm, mul-add-div, div-add-mod, mul-le-mul_right, mul-div-le, lt-mul-div-succ, div-le_of_le-mul, mod-lt}
+use mathlib.Core.Path.{◌≡◌, ap, ◌∙◌}
+use Prim.Native.Nat.{ℕ, ◌+◌, ◌*◌, ◌-◌, ◌/◌, ◌%◌, ◌≤◌, ◌<◌}
+use native.Mathlib.Nat.{mul-add, mul_left_comm, mul-add-div, div-add-mod, mul-le-mul_right, mul-div-le, lt-mul-div-succ}
 use native.Mathlib.Omega.{arith}
 use Rattle.packing.specs.FormsOfData.{units_for, octets_in}
 
@@ -11,7 +11,7 @@ eights k u =
     let e : u ≡ 8 * (u / 8) + u % 8 = omega arith in
     ap (λ (n : ℕ). k * n) e ∙ mul-add k (8 * (u / 8)) (u % 8) ∙ ap (λ (n : ℕ). n + k * (u % 8)) (mul_left_comm k 8 (u / 8))
 
-pub octets_split : (k u : ℕ) → k * (u / 8) + k * (u % 8) / 8 ≡ octets_in k u
+pub octets_split : (k u : ℕ) → octets_in k u ≡ k * (u / 8) + k * (u % 8) / 8
 unfolding octets_in
 octets_split k u = omega (arith, eights k u)
 
@@ -31,13 +31,13 @@ unfolding octets_in
 spare_split k u = omega (arith, eights k u)
 
 module _ (k n : ℕ) (pos : 0 < k) where
-  pub units_split : 8 * (n / k) + (8 * (n % k) + (k - 1)) / k ≡ units_for k n
+  pub units_split : units_for k n ≡ 8 * (n / k) + (8 * (n % k) + (k - 1)) / k
   unfolding units_for
   units_split =
       let e : k * (n / k) + n % k ≡ n = div-add-mod n k in
       let g : k * (8 * (n / k)) ≡ 8 * (k * (n / k)) = mul_left_comm k 8 (n / k) in
       let f : 8 * n + (k - 1) ≡ k * (8 * (n / k)) + (8 * (n % k) + (k - 1)) = omega arith in
-      sym (ap (λ (m : ℕ). m / k) f ∙ mul-add-div pos (8 * (n / k)) (8 * (n % k) + (k - 1)))
+      ap (λ (m : ℕ). m / k) f ∙ mul-add-div pos (8 * (n / k)) (8 * (n % k) + (k - 1))
 
   -- k U lies between 8 N and 8 N + k - 1
   pub units_low : 8 * n ≤ k * units_for k n
@@ -54,18 +54,6 @@ module _ (k n : ℕ) (pos : 0 < k) where
   pub octets_units : k ≤ 8 → octets_in k (units_for k n) ≡ n
   unfolding octets_in
   octets_units h = omega (arith, units_low, units_high)
-
-pub sixth : (k n : ℕ) → 6 ≤ k → 6 * (n / k) ≤ n
-sixth k n h =
-    let p : 6 * (n / k) ≤ k * (n / k) = mul-le-mul_right (n / k) h in
-    omega (arith, mul-div-le n k)
-
--- the units of n octets by k octets at a time, and of the rest, are no number too large
-pub units_fit : (k n x : ℕ) → 6 ≤ k → n < 2 ^ 63 → x ≤ 8 * (n % k) + (k - 1) → 8 * (n / k) + x / k < 18446744073709551616
-units_fit k n x h f l =
-    let m : n % k < k = mod-lt n (omega arith) in
-    let q : x / k ≤ 9 = div-le_of_le-mul k (omega arith) in
-    omega (arith, sixth k n h)
 
 -- where as many units came as their octets need, fewer bits than a unit has are left over
 pub spare_lt : (k u : ℕ) → 0 < k → u ≡ units_for k (octets_in k u) → k * (u % 8) % 8 < k

@@ -1,12 +1,13 @@
 -- Digits and the number that they say undo each other; a list of digits cut in two, and joined. Assumes nothing.
 use mathlib.Core.Path.{◌≡◌, refl, ap, sym, ◌∙◌}
-use mathlib.Core.Bool.{true}
+use mathlib.Core.Bool.{Bool, true, ◌&&◌}
 use mathlib.Core.List.{List, [], ◌∷◌, ◌++◌}
 use Prim.Native.Nat.{ℕ, zero, suc, ◌+◌, ◌*◌, ◌/◌, ◌%◌, ◌^◌, ◌<◌}
 use native.Mathlib.Nat.{zero-add, one-mul, mul-add, mul_assoc, mul_comm, mul-zero, pow-zero, pow-suc, pow-succ', add-mul-mod_self_left, add-mul-div_left, mod-eq_of_lt, div-eq_of_lt, mod-add-div, mod-lt, div-lt_iff_lt-mul, one-le-pow}
 use native.Mathlib.Omega.{arith}
 use lib.Arith.{digits_lt}
 use lib.Dec.{ltb}
+use Rattle.std.specs.List.{list_all}
 use lib.ListN.{length, take, drop, get_or}
 use lib.Seq.{take-length, take-append_seam, drop-append_seam}
 use borrow.Author.Tests.{ltb-true, lt-ltb}
@@ -38,6 +39,12 @@ module _ (b : ℕ) where
   unfolding all_below
   all_of [] f = refl
   all_of (x ∷ xs) f = all_cons x xs (f 0) (all_of xs (λ i. f (suc i)))
+
+  -- as the list's own test has it
+  pub all_listed : (xs : List ℕ) → all_below b xs ≡ list_all (λ x. ltb x b) xs
+  unfolding all_below
+  all_listed [] = refl
+  all_listed (x ∷ xs) = ap (λ (t : Bool). ltb x b && t) (all_listed xs)
 
   pub all_at : (xs : List ℕ) → 0 < b → all_below b xs ≡ true → (i : ℕ) → get_or xs i 0 < b
   all_at [] p e i = p

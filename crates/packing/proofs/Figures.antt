@@ -2,11 +2,11 @@
 use mathlib.Core.Path.{◌≡◌, refl}
 use mathlib.Core.List.{List, [], ◌∷◌, map}
 use Prim.Native.Nat.{ℕ}
+use Rattle.std.specs.Prelude.{Ok, Err}
 use Rattle.ground.specs.Digits.{val, digits, all_below}
 use Rattle.packing.specs.FormsOfData.{bits_of, grouped, units_for, octets_in, packed, unpacked, left_over}
-use Rattle.packing.specs.NumbersOfRefusal.{number_of, count_of, some_one, pack_refusal, unpack_refusal, Packs, Unpacks}
-use Rattle.packing.specs.declared.Reply.{Reply}
-use Rattle.packing.specs.declared.Reply.TheVariants.{Wrote, FormNotPacked, UnitOutOfRange, NotWholeOctets, NoRoom}
+use Rattle.packing.specs.NumbersOfRefusal.{Reply, number_of, count_of, some_one, pack_refusal, unpack_refusal, Packs, Unpacks}
+use Rattle.packing.specs.declared.Refusal.TheVariants.{FormNotPacked, UnitOutOfRange, NotWholeOctets, NoRoom}
 
 pub record PackedAsCounted : Type 0 where
   -- N octets into ceil(8N/k) units
@@ -75,8 +75,8 @@ pub record PackingRefused : Type 0 where
       ∷ []
       ≡ 15 ∷ 15 ∷ 12 ∷ 16 ∷ 14 ∷ []
   -- the number of each reply, and its count
-  pub numbers : map number_of (Wrote 3 ∷ FormNotPacked ∷ UnitOutOfRange ∷ NotWholeOctets ∷ NoRoom ∷ []) ≡ 0 ∷ 15 ∷ 12 ∷ 16 ∷ 14 ∷ []
-  pub counts : map count_of (Wrote 3 ∷ FormNotPacked ∷ UnitOutOfRange ∷ NotWholeOctets ∷ NoRoom ∷ []) ≡ 3 ∷ 0 ∷ 0 ∷ 0 ∷ 0 ∷ []
+  pub numbers : map number_of (Ok 3 ∷ Err FormNotPacked ∷ Err UnitOutOfRange ∷ Err NotWholeOctets ∷ Err NoRoom ∷ []) ≡ 0 ∷ 15 ∷ 12 ∷ 16 ∷ 14 ∷ []
+  pub counts : map count_of (Ok 3 ∷ Err FormNotPacked ∷ Err UnitOutOfRange ∷ Err NotWholeOctets ∷ Err NoRoom ∷ []) ≡ 3 ∷ 0 ∷ 0 ∷ 0 ∷ 0 ∷ []
 
 pub packing_refused : PackingRefused
 unfolding pack_refusal unpack_refusal units_for octets_in left_over some_one all_below bits_of digits val

@@ -3,7 +3,6 @@ pub mod Bits
 pub mod Counts
 pub mod Shift
 pub mod Turns
-pub mod Scan
 pub mod Whole
 pub mod Answers
 pub mod Positions

@@ -4,30 +4,30 @@ use mathlib.Core.Bool.{cond}
 use mathlib.Core.List.{List}
 use Prim.Native.Nat.{ℕ}
 use lib.Dec.{eqb}
+use Rattle.std.specs.Prelude.{Ok, Err}
 use lib.ListN.{length}
 use Rattle.ground.proofs.OneReply.{one_reply}
-use Rattle.packing.specs.NumbersOfRefusal.{number_of, count_of, put_from, Answer}
+use Rattle.packing.specs.NumbersOfRefusal.{Reply, number_of, count_of, put_from, Answer}
 use Rattle.packing.proofs.pack.Reads as pack
 use Rattle.packing.proofs.unpack.Reads as unpack
-use Rattle.packing.specs.declared.Reply.{Reply}
-use Rattle.packing.specs.declared.Reply.TheVariants.{Wrote, FormNotPacked, UnitOutOfRange, NotWholeOctets, NoRoom}
+use Rattle.packing.specs.declared.Refusal.TheVariants.{FormNotPacked, UnitOutOfRange, NotWholeOctets, NoRoom}
 
 -- the reply that tells a number of refusal and a count
 reply_of : ℕ → ℕ → Reply
 reply_of refusal n =
-    cond (eqb refusal 15) FormNotPacked
-    (cond (eqb refusal 12) UnitOutOfRange
-    (cond (eqb refusal 16) NotWholeOctets
-    (cond (eqb refusal 14) NoRoom
-    (Wrote n))))
+    cond (eqb refusal 15) (Err FormNotPacked)
+    (cond (eqb refusal 12) (Err UnitOutOfRange)
+    (cond (eqb refusal 16) (Err NotWholeOctets)
+    (cond (eqb refusal 14) (Err NoRoom)
+    (Ok n))))
 
 told : (r : Reply) → r ≡ reply_of (number_of r) (count_of r)
 unfolding reply_of
-told (Wrote n) = refl
-told FormNotPacked = refl
-told UnitOutOfRange = refl
-told NotWholeOctets = refl
-told NoRoom = refl
+told (Ok n) = refl
+told (Err FormNotPacked) = refl
+told (Err UnitOutOfRange) = refl
+told (Err NotWholeOctets) = refl
+told (Err NoRoom) = refl
 
 -- `Packs` and `Unpacks` are such answers
 pub one_answer : {refusal : ℕ} {xs out : List ℕ} {at : ℕ} {r r' : Reply} {after after' : List ℕ}

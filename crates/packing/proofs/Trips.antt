@@ -27,10 +27,10 @@ zeros (suc n) = zeros n
 
 module _ (k : ℕ) (s : List ℕ) (form : not_packed k ≡ false) (octets : all_below 256 s ≡ true) where
   pos : 0 < k
-  pos = omega (arith, form_low k false (sym form) refl)
+  pos = omega (arith, form_low k form)
 
   octets_in_lem : octets_in k (length (packed k s)) ≡ length s
-  octets_in_lem = ap (octets_in k) (length_packed k s) ∙ octets_units k (length s) pos (form_high k false (sym form) refl)
+  octets_in_lem = ap (octets_in k) (length_packed k s) ∙ octets_units k (length s) pos (form_high k form)
 
   -- unpacking what was packed gives the octets back
   pub unpack_packed : unpacked k (packed k s) ≡ s
@@ -111,7 +111,7 @@ module _ (k : ℕ) (us : List ℕ) (len at : ℕ) (accepted : unpack_refusal k u
   -- the bits of the units are the bits of the octets, in their order, and then zeros
   pub bits_kept_back : bits_of k us ≡ bits_of 8 (unpacked k us) ++ replicate (k * length us - 8 * octets_in k (length us)) 0
   bits_kept_back =
-      let p : 0 < k = omega (arith, form_low k false (sym tests.0) refl) in
+      let p : 0 < k = omega (arith, form_low k tests.0) in
       ap (bits_of k) (sym pack_unpacked)
       ∙ bits_kept k (unpacked k us) p (unpacked_below k us)
       ∙ ap (λ (u : ℕ). bits_of 8 (unpacked k us) ++ replicate (k * u - 8 * length (unpacked k us)) 0) back

@@ -1,19 +1,20 @@
--- What the turns of `regroup` keep: the numbers still to be written are the digits of the bits in hand and of the source not yet read, above them.
+-- What the turns of `regroup` keep: the numbers still to be written are the digits of the bits in hand and of the numbers not yet read, above them.
 -- Assumes nothing.
 use mathlib.Core.Path.{◌≡◌, refl, ap, sym, ◌∙◌, subst}
 use mathlib.Core.Bool.{true}
 use mathlib.Core.List.{List, ◌∷◌, ◌++◌, append-nil}
 use Prim.Native.Nat.{ℕ, suc, ◌+◌, ◌*◌, ◌-◌, ◌/◌, ◌%◌, ◌^◌, ◌≤◌, ◌<◌}
-use native.Mathlib.Nat.{mod-lt, mul_assoc, mul_comm, mul-add, mul-zero, add-mul-mod_self_left, add-mul-div_left, lt_of_lt_of_le}
+use native.Mathlib.Nat.{mul_assoc, mul_comm, mul-add, mul-zero, add-mul-mod_self_left, add-mul-div_left, lt_of_lt_of_le}
 use native.Mathlib.Numerals.{add-one}
 use native.Mathlib.Omega.{arith}
 use lib.Arith.{digits_lt}
+use Rattle.std.proofs.lemmas.List.{nil_from_length}
 use lib.Pow.{shl_exact, pow_pos, pow_mono, pow-add, shr_lt}
-use lib.ListN.{length, take, drop, set, get_or, length-set, drop_of_length-le}
-use lib.Seq.{take-suc-set, append_snoc, drop-cons, take_all}
+use lib.ListN.{length, take, set, length-set}
+use lib.Seq.{take-suc-set, append_snoc, take_all}
 use Rattle.ground.specs.Digits.{val, digits, all_below}
 use Rattle.packing.specs.FormsOfData.{bits_of, grouped}
-use Rattle.packing.proofs.Digits.{all_at}
+use Rattle.packing.proofs.Digits.{all_head, all_tail}
 use Rattle.packing.proofs.Bits.{regrouped}
 
 far : (b h r : ℕ) → b ≤ h → 2 ^ h * r ≡ 2 ^ b * (2 ^ (h - b) * r)
@@ -37,132 +38,97 @@ absorb acc x r a h =
     let e3 : 2 ^ h * x ≡ x * 2 ^ h = mul_comm (2 ^ h) x in
     omega arith
 
--- dst₀ is the lent part at entry, acc the bits in hand, which are `have`, i the place in src and j that in dst
-pub record Inv (src : List ℕ) (a b : ℕ) (dst₀ dst : List ℕ) (base acc have i j : ℕ) : Type 0 where
-  pub at_src : i ≤ length src
-  pub at_dst : j ≤ length dst
-  pub same : length dst ≡ length dst₀
+-- what acc, the bits in hand, `have` of them, and the numbers not yet read, of a bits each, say together
+abbrev pub held : ℕ → ℕ → ℕ → List ℕ → ℕ
+held a acc have rest = acc + 2 ^ have * val (2 ^ a) rest
+
+-- what reading keeps: v is said
+pub record Hand (a acc have : ℕ) (rest : List ℕ) (v : ℕ) : Type 0 where
   pub few : have < 16
   pub small : acc < 2 ^ have
-  pub base_is : base ≡ 2 ^ b
-  pub below : all_below (2 ^ a) src ≡ true
-  pub done : digits (2 ^ b) (length dst₀) (val (2 ^ a) src)
-      ≡ take j dst ++ digits (2 ^ b) (length dst₀ - j) (acc + 2 ^ have * val (2 ^ a) (drop i src))
+  pub below : all_below (2 ^ a) rest ≡ true
+  pub says : held a acc have rest ≡ v
 
-pub start : (src : List ℕ) (a b : ℕ) (dst₀ : List ℕ) (base : ℕ) → base ≡ 2 ^ b → all_below (2 ^ a) src ≡ true
-    → Inv src a b dst₀ dst₀ base 0 0 0 0
-start src a b dst₀ base e all =
-    record {
-      at_src = omega arith;
-      at_dst = omega arith;
-      same = refl;
-      few = omega arith;
-      small = omega arith;
-      base_is = e;
-      below = all;
-      done =
-          let z : length dst₀ ≡ length dst₀ - 0 = omega arith in
-          let v : val (2 ^ a) src ≡ 0 + 1 * val (2 ^ a) src = omega arith in
-          ap (λ (n : ℕ). digits (2 ^ b) n (val (2 ^ a) src)) z ∙ ap (λ (n : ℕ). digits (2 ^ b) (length dst₀ - 0) n) v;
-    }
+-- what writing keeps: dst₀ is the lent part at entry, j the place in it, and v is still to be written
+pub record Written (a b : ℕ) (src dst₀ dst : List ℕ) (j v : ℕ) : Type 0 where
+  pub same : length dst ≡ length dst₀
+  pub done : digits (2 ^ b) (length dst₀) (val (2 ^ a) src) ≡ take j dst ++ digits (2 ^ b) (length dst₀ - j) v
 
-module _ {src : List ℕ} {a b : ℕ} {dst₀ dst : List ℕ} {base acc have i j : ℕ} (inv : Inv src a b dst₀ dst base acc have i j) where
-  pub base_pos : 0 < base
-  base_pos = omega (arith, inv.base_is, pow_pos b)
-
-  -- what is written is a byte
-  pub byte : b ≤ 8 → acc % base < 256
-  byte h =
-      let p : 2 ^ b ≤ 2 ^ 8 = pow_mono h in
-      omega (arith, inv.base_is, mod-lt acc base_pos)
-
-  pub emit : b ≤ have → j < length dst
-      → Inv src a b dst₀ (set dst j (acc % base)) base (acc / base) (have - b) i (j + 1)
-  unfolding digits
-  emit le lt =
-      let r : ℕ = val (2 ^ a) (drop i src) in
-      let n : ℕ = length dst₀ - (j + 1) in
-      let v : ℕ = acc + 2 ^ have * r in
-      let s : length dst₀ - j ≡ suc n = omega (arith, inv.same) in
-      let k : have ≡ have - b + b = omega arith in
-      record {
-        at_src = inv.at_src;
-        at_dst = simp length-set (omega arith);
-        same = simp length-set inv.same;
-        few = omega (arith, inv.few);
-        small = rw inv.base_is (shr_lt (have - b) b (subst (λ (m : ℕ). acc < 2 ^ m) k inv.small));
-        base_is = inv.base_is;
-        below = inv.below;
-        done =
-            inv.done
-            ∙ ap (λ (m : ℕ). take j dst ++ digits (2 ^ b) m v) s
-            ∙ ap (λ (m : ℕ). take j dst ++ (m ∷ digits (2 ^ b) n (v / 2 ^ b))) (emit_low acc r b have le)
-            ∙ ap (λ (m : ℕ). take j dst ++ (acc % 2 ^ b ∷ digits (2 ^ b) n m)) (emit_high acc r b have le)
-            ∙ sym (append_snoc (take j dst) (acc % 2 ^ b) (digits (2 ^ b) n (acc / 2 ^ b + 2 ^ (have - b) * r)))
-            ∙ ap (λ (l : List ℕ). l ++ digits (2 ^ b) n (acc / 2 ^ b + 2 ^ (have - b) * r)) (sym (take-suc-set dst j (acc % 2 ^ b) lt))
-            ∙ ap (λ (m : ℕ). take m (set dst j (acc % 2 ^ b)) ++ digits (2 ^ b) n (acc / 2 ^ b + 2 ^ (have - b) * r)) (sym (add-one j))
-            ∙ ap (λ (m : ℕ). take (j + 1) (set dst j (acc % m)) ++ digits (2 ^ b) n (acc / m + 2 ^ (have - b) * r)) (sym inv.base_is);
-      }
-
-  take_in : have < b → b ≤ 8 → a ≤ 8 → i < length src → get_or src i 0 < 2 ^ a
-      → Inv src a b dst₀ dst base (acc + get_or src i 0 * 2 ^ have) (have + a) (i + 1) j
+module _ {a acc have v : ℕ} {rest : List ℕ} (h : Hand a acc have rest v) where
+  -- a number is read, shifted as the code does it, which loses no bit
+  pub read : {x y : ℕ} {tail : List ℕ} → rest ≡ y ∷ tail → x ≡ y → have < 8 → a ≤ 8
+      → Hand a (acc + x * 2 ^ have % 18446744073709551616) (have + a) tail v
   unfolding val
-  take_in lt b8 a8 ltl x =
-      let r : ℕ = val (2 ^ a) (drop (suc i) src) in
-      record {
-        at_src = omega arith;
-        at_dst = inv.at_dst;
-        same = inv.same;
-        few = omega arith;
-        small = rw (pow-add 2 have a) (omega (arith, mul_comm (2 ^ have) (2 ^ a), digits_lt x inv.small));
-        base_is = inv.base_is;
-        below = inv.below;
-        done =
-            inv.done
-            ∙ ap (λ (l : List ℕ). take j dst ++ digits (2 ^ b) (length dst₀ - j) (acc + 2 ^ have * val (2 ^ a) l)) (drop-cons src i 0 ltl)
-            ∙ ap (λ (m : ℕ). take j dst ++ digits (2 ^ b) (length dst₀ - j) m) (absorb acc (get_or src i 0) r a have)
-            ∙ ap (λ (m : ℕ). take j dst ++ digits (2 ^ b) (length dst₀ - j) (acc + get_or src i 0 * 2 ^ have + 2 ^ (have + a) * val (2 ^ a) (drop m src))) (sym (add-one i));
-      }
-
-  -- the number read, shifted as the code does it, loses no bit
-  pub read : {x : ℕ} → have < b → b ≤ 8 → a ≤ 8 → i < length src → x ≡ get_or src i 0
-      → Inv src a b dst₀ dst base (acc + x * 2 ^ have % 18446744073709551616) (have + a) (i + 1) j
-  read {x} lt b8 a8 ltl e =
-      let y : ℕ = get_or src i 0 in
-      let l : y < 2 ^ a = all_at (2 ^ a) src (pow_pos a) inv.below i in
+  read {x} {y} {tail} e is lt a8 =
+      let all : all_below (2 ^ a) (y ∷ tail) ≡ true = rw e at h.below in
+      let l : y < 2 ^ a = all_head (2 ^ a) y tail all in
       let s : y * 2 ^ have % 18446744073709551616 ≡ y * 2 ^ have = shl_exact a have 64 l (omega arith) in
-      rw (e, s) (take_in lt b8 a8 ltl l)
-
-  -- past the end of the source the bits are zero
-  pub pad : have < b → b ≤ 8 → length src ≤ i → Inv src a b dst₀ dst base acc b i j
-  unfolding val
-  pad lt b8 le =
-      let z : (h : ℕ) → acc + 2 ^ h * val (2 ^ a) (drop i src) ≡ acc =
-      λ h. ap (λ (l : List ℕ). acc + 2 ^ h * val (2 ^ a) l) (drop_of_length-le src le) ∙ omega (arith, mul-zero (2 ^ h)) in
-      record {
-        at_src = inv.at_src;
-        at_dst = inv.at_dst;
-        same = inv.same;
+      rw (is, s)
+      (record {
         few = omega arith;
-        small = lt_of_lt_of_le inv.small (pow_mono (omega arith));
-        base_is = inv.base_is;
-        below = inv.below;
-        done = inv.done ∙ ap (λ (m : ℕ). take j dst ++ digits (2 ^ b) (length dst₀ - j) m) (z have ∙ sym (z b));
+        small = rw (pow-add 2 have a) (omega (arith, mul_comm (2 ^ have) (2 ^ a), digits_lt l h.small));
+        below = all_tail (2 ^ a) y tail all;
+        says = sym (absorb acc y (val (2 ^ a) tail) a have) ∙ ap (held a acc have) (sym e) ∙ h.says;
+      })
+
+  -- past the end the bits are zero
+  pub pad : {b : ℕ} → length rest ≡ 0 → have < b → b ≤ 8 → Hand a acc b rest v
+  unfolding val
+  pad {b} e lt b8 =
+      let z : (n : ℕ) → held a acc n rest ≡ acc = λ n. ap (held a acc n) (nil_from_length rest e) ∙ omega (arith, mul-zero (2 ^ n)) in
+      record {
+        few = omega arith;
+        small = lt_of_lt_of_le h.small (pow_mono (omega arith));
+        below = h.below;
+        says = z b ∙ sym (z have) ∙ h.says;
       }
 
   pub fits : acc < 18446744073709551616
   fits =
-      let p : 2 ^ have ≤ 2 ^ 16 = pow_mono {i = have} {j = 16} (omega (arith, inv.few)) in
-      omega (arith, inv.small)
+      let p : 2 ^ have ≤ 2 ^ 16 = pow_mono {i = have} {j = 16} (omega (arith, h.few)) in
+      omega (arith, h.small)
 
-  pub finish : length dst ≤ j → dst ≡ grouped b (length dst₀) (bits_of a src)
-  unfolding digits
-  finish le =
-      let v : ℕ = acc + 2 ^ have * val (2 ^ a) (drop i src) in
-      let z : length dst₀ - j ≡ 0 = omega (arith, inv.same) in
-      sym
-      (regrouped a b (length dst₀) src inv.below
-      ∙ inv.done
-      ∙ ap (λ (m : ℕ). take j dst ++ digits (2 ^ b) m v) z
-      ∙ append-nil (take j dst)
-      ∙ take_all j dst le)
+  -- a number is written
+  module _ (b base : ℕ) (base_is : base ≡ 2 ^ b) (le : b ≤ have) where
+    pub emit_hand : Hand a (acc / base) (have - b) rest (held a (acc / base) (have - b) rest)
+    emit_hand =
+        let k : have ≡ have - b + b = omega arith in
+        record {
+          few = omega (arith, h.few);
+          small = rw base_is (shr_lt (have - b) b (subst (λ (m : ℕ). acc < 2 ^ m) k h.small));
+          below = h.below;
+          says = refl;
+        }
+
+    pub emit_written : {src dst₀ dst : List ℕ} {j : ℕ} → Written a b src dst₀ dst j v → j < length dst
+        → Written a b src dst₀ (set dst j (acc % base)) (j + 1) (held a (acc / base) (have - b) rest)
+    unfolding digits
+    emit_written {src} {dst₀} {dst} {j} w lt =
+        let r : ℕ = val (2 ^ a) rest in
+        let n : ℕ = length dst₀ - (j + 1) in
+        let s : length dst₀ - j ≡ suc n = omega (arith, w.same) in
+        record {
+          same = simp length-set w.same;
+          done =
+              w.done
+              ∙ ap (λ (m : ℕ). take j dst ++ digits (2 ^ b) (length dst₀ - j) m) (sym h.says)
+              ∙ ap (λ (m : ℕ). take j dst ++ digits (2 ^ b) m (acc + 2 ^ have * r)) s
+              ∙ ap (λ (m : ℕ). take j dst ++ (m ∷ digits (2 ^ b) n ((acc + 2 ^ have * r) / 2 ^ b))) (emit_low acc r b have le)
+              ∙ ap (λ (m : ℕ). take j dst ++ (acc % 2 ^ b ∷ digits (2 ^ b) n m)) (emit_high acc r b have le)
+              ∙ sym (append_snoc (take j dst) (acc % 2 ^ b) (digits (2 ^ b) n (acc / 2 ^ b + 2 ^ (have - b) * r)))
+              ∙ ap (λ (l : List ℕ). l ++ digits (2 ^ b) n (acc / 2 ^ b + 2 ^ (have - b) * r)) (sym (take-suc-set dst j (acc % 2 ^ b) lt))
+              ∙ ap (λ (m : ℕ). take m (set dst j (acc % 2 ^ b)) ++ digits (2 ^ b) n (acc / 2 ^ b + 2 ^ (have - b) * r)) (sym (add-one j))
+              ∙ ap (λ (m : ℕ). take (j + 1) (set dst j (acc % m)) ++ digits (2 ^ b) n (acc / m + 2 ^ (have - b) * r)) (sym base_is);
+        }
+
+pub finish : {a b j v : ℕ} {src dst₀ dst : List ℕ} → Written a b src dst₀ dst j v → all_below (2 ^ a) src ≡ true → length dst ≤ j
+    → dst ≡ grouped b (length dst₀) (bits_of a src)
+unfolding digits
+finish {a} {b} {j} {v} {src} {dst₀} {dst} w all le =
+    let z : length dst₀ - j ≡ 0 = omega (arith, w.same) in
+    sym
+    (regrouped a b (length dst₀) src all
+    ∙ w.done
+    ∙ ap (λ (m : ℕ). take j dst ++ digits (2 ^ b) m v) z
+    ∙ append-nil (take j dst)
+    ∙ take_all j dst le)

@@ -9,7 +9,7 @@ use lib.Dec.{ltb, leb}
 use lib.Pow.{pow_pos}
 use lib.ListN.{length, take, drop, get_or}
 use lib.Seq.{take-suc, take-length, length-take-le, drop-append-add, drop-nil}
-use borrow.Author.Tests.{lt-ltb, lt-leb, leb-true, leb-false, eq-eqb, ne_eqb}
+use borrow.Author.Tests.{lt-ltb, lt-leb, leb-true, leb-false, eq-eqb}
 use Rattle.ground.specs.Digits.{val, digits, all_below}
 use Rattle.packing.specs.FormsOfData.{bits_of, units_for, octets_in, left_over}
 use Rattle.packing.specs.NumbersOfRefusal.{some_one, not_whole}
@@ -89,9 +89,6 @@ module _ (k : ℕ) (us : List ℕ) (p : ℕ) (pos : 0 < k) (count : length us �
 module _ (k : ℕ) (us : List ℕ) (n due : ℕ) (en : n ≡ octets_in k (length us)) (ed : due ≡ units_for k n) where
   due_is : due ≡ units_for k (octets_in k (length us))
   due_is = ed ∙ ap (units_for k) en
-
-  pub wrong_count_lem : (length us ≡ due → ⊥) → true ≡ not_whole k us
-  wrong_count_lem f = simp (ne_eqb (length us) (units_for k (octets_in k (length us))) (λ e. f (e ∙ sym due_is)))
 
   module _ (count : length us ≡ due) where
     pub counted : length us ≡ units_for k (octets_in k (length us))

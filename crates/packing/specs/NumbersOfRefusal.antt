@@ -1,25 +1,26 @@
 -- "Numbers of refusal" of packing and unpacking, in their order, and what each call promises. Assumes nothing.
-use Rattle.std.specs.Prelude.{◌≡◌, Bool, false, cond, not, ◌||◌, List, [], ◌∷◌, ◌++◌, ℕ, ◌+◌, ◌-◌, ◌^◌, eqb, ltb, length, take, drop}
+use Rattle.std.specs.Prelude.{◌≡◌, Bool, false, cond, not, ◌||◌, Result, Ok, Err, List, [], ◌∷◌, ◌++◌, ℕ, ◌+◌, ◌-◌, ◌^◌, eqb, ltb, length, take, drop}
 use Rattle.ground.specs.Digits.{all_below}
 use Rattle.packing.specs.FormsOfData.{units_for, octets_in, packed, unpacked, left_over}
-use Rattle.packing.specs.declared.Reply.{Reply}
-use Rattle.packing.specs.declared.Reply.TheVariants.{Wrote, FormNotPacked, UnitOutOfRange, NotWholeOctets, NoRoom}
+use Rattle.packing.specs.declared.Refusal.{Refusal}
+use Rattle.packing.specs.declared.Refusal.TheVariants.{FormNotPacked, UnitOutOfRange, NotWholeOctets, NoRoom}
+
+-- so many units or octets were written, or none
+abbrev pub Reply : Type 0
+Reply = Result ℕ Refusal
 
 -- the number of refusal that a reply tells, 0 for none
 abbrev pub number_of : Reply → ℕ
-number_of (Wrote n) = 0
-number_of FormNotPacked = 15
-number_of UnitOutOfRange = 12
-number_of NotWholeOctets = 16
-number_of NoRoom = 14
+number_of (Ok n) = 0
+number_of (Err FormNotPacked) = 15
+number_of (Err UnitOutOfRange) = 12
+number_of (Err NotWholeOctets) = 16
+number_of (Err NoRoom) = 14
 
 -- how many units or octets a reply says were written
 abbrev pub count_of : Reply → ℕ
-count_of (Wrote n) = n
-count_of FormNotPacked = 0
-count_of UnitOutOfRange = 0
-count_of NotWholeOctets = 0
-count_of NoRoom = 0
+count_of (Ok n) = n
+count_of (Err refusal) = 0
 
 -- 15: form not 6, 7, 8
 abbrev pub not_packed : ℕ → Bool

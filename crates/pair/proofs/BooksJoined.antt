@@ -1,67 +1,53 @@
 -- Each way through joining two books. Assumes nothing.
-use mathlib.Core.Path.{◌≡◌, refl, sym, ap, ap₂, ◌∙◌}
+use mathlib.Core.Path.{◌≡◌, sym, ap, ap₂, ◌∙◌}
 use mathlib.Core.Bool.{Bool, true, false}
 use mathlib.Core.List.{List}
-use Prim.Native.Nat.{ℕ, max}
+use Prim.Native.Nat.{ℕ, ◌<◌, max}
+use native.Mathlib.Omega.{arith}
 use borrow.Author.Tests.{ne_eqb}
+use Rattle.std.specs.Prelude.{Ok, Err}
+use Rattle.book.specs.declared.Fault.{Fault}
 use Rattle.book.specs.Book.{book_of}
-use Rattle.book.specs.Refusals.{book_no}
-use Rattle.book.specs.Reading.{number_of, read_book}
-use Rattle.book.proofs.Reply.{read_number}
+use Rattle.book.specs.Refusals.{nothing_wrong, book_fault}
+use Rattle.book.specs.Reading.{yields, read_book}
+use Rattle.book.proofs.Reply.{read_verdict}
 use Rattle.protocol.specs.Slot.{started, start_of}
 use Rattle.protocol.specs.Joined.{joined}
 use Rattle.protocol.specs.declared.Endpoint.{Endpoint}
 use Rattle.protocol.specs.declared.Start.{Start}
 use Rattle.pair.specs.Running.{ran_for}
-use Rattle.pair.specs.Join.{right_roles, stands_of, join_of}
-use Rattle.pair.specs.declared.join.Joining.{Joining}
-use Rattle.pair.specs.declared.join.Joining.TheVariants.{InputRefused, RefusedO, RefusedA, WrongRole}
+use Rattle.pair.specs.Join.{right_roles, concluded_of, join_of}
+use Rattle.pair.specs.declared.join.Concluded.{Concluded}
+use Rattle.pair.specs.declared.join.NotJoined.TheVariants.{WrongRole}
 
--- What starts from the bytes of a book.
+-- what starts from the bytes of a book
+module _ (s : List ℕ) {x : Start} (e : x ≡ start_of (read_book s)) where
+  verdict : x.verdict ≡ book_fault s
+  unfolding start_of
+  verdict = ap (λ (x : Start). x.verdict) e ∙ read_verdict s
 
-start_number : (s : List ℕ) {x : Start} {n : ℕ} → x ≡ start_of (read_book s) → n ≡ number_of x.verdict → n ≡ book_no s
-unfolding start_of
-start_number s e n = n ∙ ap (λ (x : Start). number_of x.verdict) e ∙ read_number s (read_book s) refl
+  pub starts : x.verdict ≡ nothing_wrong → (book_fault s ≡ nothing_wrong) × (x.state ≡ started (book_of s))
+  unfolding start_of read_book
+  starts ok =
+      let fine : book_fault s ≡ nothing_wrong = sym verdict ∙ ok in
+      (fine, ap (λ (x : Start). x.state) e ∙ ap (λ v. started (yields v (book_of s)).book) fine)
 
-start_state : (s : List ℕ) {x : Start} → x ≡ start_of (read_book s) → book_no s ≡ 0 → x.state ≡ started (book_of s)
-unfolding start_of read_book
-start_state s e fine = ap (λ (x : Start). x.state) e ∙ rw fine
+  pub is_refused : {f : Fault} → x.verdict ≡ Err f → book_fault s ≡ Err f
+  is_refused bad = sym verdict ∙ bad
 
-module _ (o a : List ℕ) (d : ℕ) where
-  pub no_delay : d ≡ 0 → InputRefused ≡ join_of o a d
+-- two books that start
+module _ (o a : List ℕ) (d : ℕ) (delay : 0 < d) {x y : Endpoint} {r : Bool} (fine-o : (book_fault o ≡ nothing_wrong) × (x ≡ started (book_of o)))
+    (fine-a : (book_fault a ≡ nothing_wrong) × (y ≡ started (book_of a))) (e : r ≡ right_roles x.book y.book) where
+  roles : right_roles (book_of o) (book_of a) ≡ r
+  unfolding started
+  roles = sym (e ∙ ap₂ (λ (v w : Endpoint). right_roles v.book w.book) fine-o.1 fine-a.1)
+
+  pub wrong_role : r ≡ false → Err WrongRole ≡ join_of o a d
   unfolding join_of
-  no_delay z = rw z
+  wrong_role f = rw (ne_eqb d 0 (λ z. omega arith), fine-o.0, fine-a.0, roles, f)
 
-  module _ (delay : d ≡ 0 → ⊥) {x : Start} {n : ℕ} (ex : x ≡ start_of (read_book o)) (en : n ≡ number_of x.verdict) where
-    pub refused_o : (n ≡ 0 → ⊥) → RefusedO n ≡ join_of o a d
-    unfolding join_of
-    refused_o f = rw (ne_eqb _ _ delay, ← start_number o ex en, ne_eqb _ _ f)
-
-    module _ (fine-o : n ≡ 0) {y : Start} {m : ℕ} (ey : y ≡ start_of (read_book a)) (em : m ≡ number_of y.verdict) where
-      pub refused_a : (m ≡ 0 → ⊥) → RefusedA m ≡ join_of o a d
-      unfolding join_of
-      refused_a f = rw (ne_eqb _ _ delay, ← start_number o ex en, fine-o, ← start_number a ey em, ne_eqb _ _ f)
-
-      module _ (fine-a : m ≡ 0) {r : Bool} (er : r ≡ right_roles x.state.book y.state.book) where
-        state_o : x.state ≡ started (book_of o)
-        state_o = start_state o ex (sym (start_number o ex en) ∙ fine-o)
-
-        state_a : y.state ≡ started (book_of a)
-        state_a = start_state a ey (sym (start_number a ey em) ∙ fine-a)
-
-        roles : right_roles (book_of o) (book_of a) ≡ r
-        unfolding started
-        roles = sym (er ∙ ap₂ (λ (e f : Endpoint). right_roles e.book f.book) state_o state_a)
-
-        pub wrong_role : r ≡ false → WrongRole ≡ join_of o a d
-        unfolding join_of
-        wrong_role f = rw (ne_eqb _ _ delay, ← start_number o ex en, fine-o, ← start_number a ey em, fine-a, roles, f)
-
-        pub both_run : r ≡ true → {j : Joining}
-            → j ≡ stands_of (ran_for (max x.state.book.limit y.state.book.limit) (joined x.state y.state d)) → j ≡ join_of o a d
-        unfolding join_of started
-        both_run f e =
-            rw (ne_eqb _ _ delay, ← start_number o ex en, fine-o, ← start_number a ey em, fine-a, roles, f)
-            (e ∙ ap₂ (λ (p q : Endpoint). stands_of (ran_for (max p.book.limit q.book.limit) (joined p q d))) state_o state_a)
-
-pub ruleset joinings = (no_delay, refused_o, refused_a, wrong_role, both_run)
+  pub both_run : r ≡ true → {j : Concluded} → j ≡ concluded_of (ran_for (max x.book.limit y.book.limit) (joined x y d)) → Ok j ≡ join_of o a d
+  unfolding join_of started
+  both_run t q =
+      rw (ne_eqb d 0 (λ z. omega arith), fine-o.0, fine-a.0, roles, t)
+      (ap Ok (q ∙ ap₂ (λ (v w : Endpoint). concluded_of (ran_for (max v.book.limit w.book.limit) (joined v w d))) fine-o.1 fine-a.1))

@@ -7,20 +7,22 @@ use borrow.Author.Tests.{lt-ltb, le-ltb}
 use Rattle.text.specs.Text.{text}
 use Rattle.text.specs.declared.Text.{Text}
 use Rattle.pair.specs.Report.{least_bytes, most_bytes, lines_of, joining_in, join_says}
-use Rattle.pair.specs.declared.join.Joining.{Joining}
-use Rattle.pair.specs.declared.join.Joining.TheVariants.{InputRefused}
+use Rattle.std.specs.Prelude.{Result, Err}
+use Rattle.pair.specs.declared.join.Concluded.{Concluded}
+use Rattle.pair.specs.declared.join.NotJoined.{NotJoined}
+use Rattle.pair.specs.declared.join.NotJoined.TheVariants.{InputRefused}
 
 module _ (s : List ℕ) {r : Text} where
-  pub too_short : length s < least_bytes → r ≡ text (lines_of InputRefused) → r ≡ text (join_says s)
+  pub too_short : length s < least_bytes → r ≡ text (lines_of (Err InputRefused)) → r ≡ text (join_says s)
   unfolding join_says
   too_short l e = rw (lt-ltb _ _ l) e
 
   module _ (long : least_bytes ≤ length s) where
-    pub too_long : most_bytes < length s → r ≡ text (lines_of InputRefused) → r ≡ text (join_says s)
+    pub too_long : most_bytes < length s → r ≡ text (lines_of (Err InputRefused)) → r ≡ text (join_says s)
     unfolding join_says
     too_long l e = rw (le-ltb _ _ long, lt-ltb _ _ l) e
 
-    pub joined_lines : length s ≤ most_bytes → {j : Joining} → j ≡ joining_in s → r ≡ text (lines_of j) → r ≡ text (join_says s)
+    pub joined_lines : length s ≤ most_bytes → {j : Result Concluded NotJoined} → j ≡ joining_in s → r ≡ text (lines_of j) → r ≡ text (join_says s)
     unfolding join_says
     joined_lines l j e = rw (le-ltb _ _ long, le-ltb _ _ l) (e ∙ ap (λ x. text (lines_of x)) j)
 

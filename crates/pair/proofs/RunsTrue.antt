@@ -26,7 +26,9 @@ use Rattle.protocol.proofs.Chain.PairConcludes.{no_version_lem, both_open, no_pr
 use Rattle.pair.specs.Running.{has_concluded, both_concluded, ran_for}
 use Rattle.pair.specs.Join.{ran_of, stands_of}
 use Rattle.pair.specs.RunsTrue.{pair_at, Ends, Conclude, RunConcludes, RunsTrue}
-use Rattle.pair.specs.declared.join.Joining.TheVariants.{Ran}
+use Rattle.std.specs.Prelude.{Result, Ok}
+use Rattle.pair.specs.declared.join.Concluded.{Concluded}
+use Rattle.pair.specs.declared.join.NotJoined.{NotJoined}
 
 -- Where a run of n slots from slot t on ends.
 
@@ -71,6 +73,9 @@ ends_from at next (suc n) t = go (both_concluded (at t)) refl (ends_from at next
         over = over_later r r.over;
         first = λ u l m. before c r u l m (ltb t u) refl;
       }
+
+abbrev concluded : Outcome → Outcome → Result Concluded NotJoined
+concluded o a = Ok (record { o = o; a = a })
 
 -- Concluded is out of the exchange.
 
@@ -148,16 +153,16 @@ module _ (o a : Book) (d : ℕ) where
         record {
           o = stands_at (started o) ho drive t;
           a = stands_at (started a) ha drive t;
-          is = ap stands_of ended.is ∙ sym (ap₂ Ran (stands_o_lem t) (stands_a_lem t));
+          is = ap stands_of ended.is ∙ sym (ap₂ concluded (stands_o_lem t) (stands_a_lem t));
           how_o = concluded_so slot_o HowO (stands_at (started o) ho drive) co t (ap has_concluded (stands_o_lem t) ∙ both_left (has_concluded (outcome_of x.o)) (has_concluded (outcome_of x.a)) ended.over);
           how_a = concluded_so slot_a HowA (stands_at (started a) ha drive) ca t (ap has_concluded (stands_a_lem t) ∙ both_right (has_concluded (outcome_of x.o)) (has_concluded (outcome_of x.a)) ended.over);
         }
 
     refuse : (number slot_o slot_a : ℕ) → BothRefuse number slot_o slot_a (stands_at (started o) ho drive) (stands_at (started a) ha drive)
-        → stands_of (ran_of o a d) ≡ Ran (Refused number slot_o) (Refused number slot_a)
+        → stands_of (ran_of o a d) ≡ concluded (Refused number slot_o) (Refused number slot_a)
     refuse number slot_o slot_a both =
         let c = conclude (λ x. x ≡ Refused number slot_o) (λ x. x ≡ Refused number slot_a) slot_o slot_a both.o both.a in
-        c.is ∙ ap₂ Ran c.how_o c.how_a
+        c.is ∙ ap₂ concluded c.how_o c.how_a
 
     pub run_concludes : RunConcludes d o a
     run_concludes =

@@ -1,4 +1,5 @@
 pub mod Running
+pub mod Ring
 pub mod Rings
 pub mod Join
 pub mod RunsTrue

@@ -1,5 +1,5 @@
 -- What a run is to the undamaged pair of the definitions, and so to the calls of demand 3. Assumes nothing.
-use Rattle.std.specs.Prelude.{◌≡◌, true, false, ℕ, ◌≤◌, ◌<◌, max}
+use Rattle.std.specs.Prelude.{◌≡◌, true, false, ℕ, ◌≤◌, ◌<◌, max, Result, Ok}
 use Rattle.book.specs.declared.Book.{Book}
 use Rattle.book.specs.Kept.{book_ok}
 use Rattle.protocol.specs.Exchange.{entry_of}
@@ -12,8 +12,8 @@ use Rattle.protocol.specs.declared.Outcome.{Outcome}
 use Rattle.protocol.specs.declared.Outcome.TheVariants.{Refused}
 use Rattle.pair.specs.Running.{both_concluded}
 use Rattle.pair.specs.Join.{ran_of, stands_of}
-use Rattle.pair.specs.declared.join.Joining.{Joining}
-use Rattle.pair.specs.declared.join.Joining.TheVariants.{Ran}
+use Rattle.pair.specs.declared.join.Concluded.{Concluded}
+use Rattle.pair.specs.declared.join.NotJoined.{NotJoined}
 
 -- the undamaged pair before slot t, offered no unit, leads 0100
 abbrev pub pair_at : Book → Book → ℕ → ℕ → Joined
@@ -28,10 +28,10 @@ pub record Ends (o a : Book) (d : ℕ) : Type 0 where
   pub first : (t : ℕ) → t < slot → both_concluded (pair_at o a d t) ≡ false
 
 -- both ends have concluded, each so
-pub record Conclude (HowO HowA : Outcome → Type 0) (j : Joining) : Type 0 where
+pub record Conclude (HowO HowA : Outcome → Type 0) (j : Result Concluded NotJoined) : Type 0 where
   pub o : Outcome
   pub a : Outcome
-  pub is : j ≡ Ran o a
+  pub is : j ≡ Ok (record { o = o; a = a })
   pub how_o : HowO o
   pub how_a : HowA a
 
@@ -41,9 +41,10 @@ pub record RunConcludes (d : ℕ) (o a : Book) : Type 0 where
       → Conclude (OpenSince (concludes_o (meets d) d o a) (shared_version o a) (entry_of o 0))
       (OpenSince (concludes_a (meets d) d o a) (shared_version o a) (entry_of o 0)) (stands_of (ran_of o a d))
   pub no_version : shared_version o a ≡ 0
-      → stands_of (ran_of o a d) ≡ Ran (Refused 21 (lacks_o (meets d) d)) (Refused 21 (lacks_a (meets d) d))
+      → stands_of (ran_of o a d) ≡ Ok (record { o = Refused 21 (lacks_o (meets d) d); a = Refused 21 (lacks_a (meets d) d) })
   pub no_profile : (shared_version o a ≡ 0 → ⊥) → (ProfileIn o a → ⊥)
-      → stands_of (ran_of o a d) ≡ Ran (Refused 22 (concludes_o (meets d) d o a)) (Refused 22 (concludes_a (meets d) d o a))
+      → stands_of (ran_of o a d)
+      ≡ Ok (record { o = Refused 22 (concludes_o (meets d) d o a); a = Refused 22 (concludes_a (meets d) d o a) })
 
 pub record RunsTrue : Type 0 where
   pub ends : (o a : Book) → book_ok o ≡ true → book_ok a ≡ true → (d : ℕ) → Ends o a d

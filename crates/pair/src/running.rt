@@ -1,106 +1,85 @@
 // The joined pair, run slot by slot until both ends are open or refused.
-ghost use Rattle.std.specs.Prelude.{◌≡◌, ◌<◌, get_or, set};
-ghost use Rattle.protocol.specs.Slot.{outcome_of, slot_of};
-ghost use Rattle.protocol.specs.Joined.{idle, byte_of};
+ghost use Rattle.std.specs.Prelude.{◌≡◌, ◌<◌, ◌≤◌, List, [], ◌∷◌, ◌++◌, ℕ, drop, replicate};
+ghost use Rattle.std.specs.NonZero.{non_zero_u8_get};
+ghost use Rattle.channel.specs.Bytes.{sgidle};
+ghost use Rattle.protocol.specs.Slot.{outcome_of};
+ghost use Rattle.protocol.specs.Joined.{idle, byte_of, arriving, joined, joined_slot};
+ghost use Rattle.pair.specs.Ring.{around};
 ghost use Rattle.pair.specs.Running.{has_concluded, ran_for};
-ghost use Rattle.pair.specs.Rings.{InRing, pair_in, rings_of, place_after, ring_slot};
 
 use channel::byte::ChannelByte;
 use endpoint::slot::{outcome, slot};
 use opened::drive::idle;
-use protocol::{Endpoint, Outcome, Reply, SlotAnswer};
+use protocol::{Endpoint, Outcome, Reply};
+use std::marker::Model;
+use std::num::NonZeroU8;
 
 const LONGEST_DELAY: usize = 255;
 
-// Both ends, and the bytes on their way back to O and forth to A, each in a ring: the one that arrives next stands at the place next.
-#[derive(Clone, Copy)]
+// The bytes on their way to an end, in a ring of as many places as the delay has slots: the one that arrives next stands at the place next.
+// An array of the longest delay's, since memory is fixed.
+#[derive(Drop)]
+pub(crate) struct Ring {
+    bytes: [u8; LONGEST_DELAY],
+    next: usize,
+    delay: usize,
+}
+
+// Clauses see the bytes, the next to arrive first.
+impl Model for Ring {
+    ghost Value = { List ℕ };
+
+    ghost view = { λ r. around r.delay r.next r.bytes };
+
+    ghost invariant = { λ r. (r.next < r.delay) × (r.delay ≤ 255) };
+}
+
+impl Ring {
+    // Before the first byte of the other end arrives, 7F arrives.
+    fn new(delay: NonZeroU8) -> Self
+        ensures { result ≡ replicate (non_zero_u8_get delay) sgidle }
+    {
+        Ring {
+            bytes: [ChannelByte::SGIDLE.0; LONGEST_DELAY],
+            next: 0,
+            delay: usize::from(delay.get()),
+        }
+    }
+
+    fn arriving(&self) -> u8
+        ensures { result ≡ arriving self.now }
+    {
+        self.bytes[self.next]
+    }
+
+    // The byte that is sent takes the place of the one that has arrived.
+    fn send(&mut self, byte: u8)
+        ensures { self.new ≡ drop 1 self.old ++ byte ∷ [] }
+    {
+        self.bytes[self.next] = byte;
+        self.next = if self.next + 1 < self.delay {
+            self.next + 1
+        } else {
+            0
+        };
+    }
+}
+
+// Both ends, and the bytes on their way back to O and forth to A.
+#[derive(Drop)]
 pub(crate) struct Pair {
     pub(crate) o: Endpoint,
     pub(crate) a: Endpoint,
-    pub(crate) back: [u8; LONGEST_DELAY],
-    pub(crate) forth: [u8; LONGEST_DELAY],
-    pub(crate) next: usize,
-}
-
-// Before the first byte of the other end arrives, 7F arrives.
-pub(crate) fn joined(o: Endpoint, a: Endpoint) -> Pair
-    ensures { result ≡ rings_of o a }
-{
-    let idle = ChannelByte::SGIDLE.0;
-    let back = [idle; LONGEST_DELAY];
-    let forth = [idle; LONGEST_DELAY];
-    Pair {
-        o,
-        a,
-        back,
-        forth,
-        next: 0,
-    }
+    back: Ring,
+    forth: Ring,
 }
 
 fn byte_of(r: Reply) -> u8
     ensures { result ≡ byte_of r }
 {
     match r {
-        Reply::Refused(_) => ChannelByte::SGIDLE.0,
-        Reply::Passed {
-            sent,
-            delivered: _,
-            taken: _,
-            outcome: _,
-        } => sent.0,
-    }
-}
-
-// The slot of an end that hears the byte at a place of its ring.
-fn hears(e: Endpoint, ring: [u8; LONGEST_DELAY], at: usize) -> SlotAnswer
-    requires { at < 255 }
-    ensures { result ≡ slot_of e (get_or ring at 0) idle }
-{
-    slot(e, ChannelByte(ring[at]), idle())
-}
-
-// The ring with the byte of a reply at a place.
-fn with_byte(ring: [u8; LONGEST_DELAY], at: usize, r: Reply) -> [u8; LONGEST_DELAY]
-    requires { at < 255 }
-    ensures { result ≡ set ring at (byte_of r) }
-{
-    let mut turned = ring;
-    turned[at] = byte_of(r);
-    turned
-}
-
-// The place after one, around the ring.
-fn place_after(at: usize, d: usize) -> usize
-    requires { at < 255 }
-    ensures { result ≡ place_after d at }
-{
-    if at + 1 < d { at + 1 } else { 0 }
-}
-
-// Each end hears the byte that arrives, and the byte that it sends takes that place in the other's ring.
-fn pair_slot(p: Pair, d: usize) -> Pair
-    requires { p.next < 255 }
-    ensures { result ≡ ring_slot d p }
-{
-    let at = p.next;
-    let back = p.back;
-    let forth = p.forth;
-    let x = hears(p.o, back, at);
-    let y = hears(p.a, forth, at);
-    let o = x.state;
-    let a = y.state;
-    let sent_o = x.reply;
-    let sent_a = y.reply;
-    let back = with_byte(back, at, sent_a);
-    let forth = with_byte(forth, at, sent_o);
-    let next = place_after(at, d);
-    Pair {
-        o,
-        a,
-        back,
-        forth,
-        next,
+        Ok(passed) => passed.sent.0,
+        Err(_) => ChannelByte::SGIDLE.0,
     }
 }
 
@@ -108,32 +87,47 @@ fn pair_slot(p: Pair, d: usize) -> Pair
 fn has_concluded(e: Endpoint) -> bool
     ensures { result ≡ has_concluded (outcome_of e) }
 {
-    let stands = outcome(e);
-    match stands {
-        Outcome::Exchanging => false,
-        Outcome::Open {
-            version: _,
-            profile: _,
-            slot: _,
-            signals: _,
-        } => true,
-        Outcome::Refused { number: _, slot: _ } => true,
-    }
+    !matches!(outcome(e), Outcome::Exchanging)
 }
 
-// Until both are open or refused, or for so many slots.
-pub(crate) fn run(start: Pair, d: usize, most: usize) -> Pair
-    requires { InRing d start }
-    ensures { pair_in d result ≡ ran_for most (pair_in d start) }
-{
-    let mut p = start;
-    let mut left = most;
-    while 0 < left {
-        if has_concluded(p.o) & has_concluded(p.a) {
-            return p;
+impl Pair {
+    ghost use Rattle.pair.specs.Rings.{pair_in};
+
+    #[tactic(auto, unfolding(protocol::specs::Joined::joined))]
+    pub(crate) fn new(o: Endpoint, a: Endpoint, delay: NonZeroU8) -> Self
+        ensures { pair_in result ≡ joined o a (non_zero_u8_get delay) }
+    {
+        Pair {
+            o,
+            a,
+            back: Ring::new(delay),
+            forth: Ring::new(delay),
         }
-        p = pair_slot(p, d);
-        left -= 1;
     }
-    p
+
+    // Each end hears the byte that arrives, and the byte that it sends goes on its way to the other.
+    #[tactic(auto, unfolding(protocol::specs::Joined::joined_slot))]
+    fn pass_slot(&mut self)
+        ensures { pair_in self.new ≡ joined_slot idle idle (pair_in self.old) }
+    {
+        let x = slot(self.o, ChannelByte(self.back.arriving()), idle());
+        let y = slot(self.a, ChannelByte(self.forth.arriving()), idle());
+        self.o = x.state;
+        self.a = y.state;
+        self.back.send(byte_of(y.reply));
+        self.forth.send(byte_of(x.reply));
+    }
+
+    // Until both are open or refused, or for so many slots.
+    #[tactic(auto, using(crate::proofs::UntilConcluded::run_steps))]
+    pub(crate) fn run(&mut self, most: u16)
+        ensures { pair_in self.new ≡ ran_for most (pair_in self.old) }
+    {
+        for _ in 0..most {
+            if has_concluded(self.o) & has_concluded(self.a) {
+                return;
+            }
+            self.pass_slot();
+        }
+    }
 }

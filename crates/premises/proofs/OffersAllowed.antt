@@ -1,5 +1,6 @@
 -- When neither end is given an offer that 12 refuses: where nothing is offered, and where each unit offered is in the range of every entry
 -- of the end's book. Assumes nothing.
+use Rattle.std.specs.Prelude.{Option, Some, None}
 use mathlib.Core.Path.{◌≡◌, refl}
 use mathlib.Core.Bool.{true}
 use Prim.Native.Nat.{ℕ, ◌<◌}
@@ -11,8 +12,6 @@ use Rattle.protocol.specs.Opened.{shape_of, has_unit}
 use Rattle.protocol.specs.Ranges.{phase_in, well_formed}
 use Rattle.protocol.specs.Slot.{started, offer_fits, offer_allowed}
 use Rattle.protocol.specs.Call.{end_at, Allowed, OffersNothing, OffersFit}
-use Rattle.protocol.specs.declared.Offer.{Offer}
-use Rattle.protocol.specs.declared.Offer.TheVariants as offer
 use Rattle.protocol.specs.declared.Phase.{Phase}
 use Rattle.protocol.specs.declared.Phase.TheVariants.{Exchanging, Open, Refused}
 use Rattle.protocol.specs.declared.Endpoint.{Endpoint}
@@ -20,7 +19,7 @@ use Rattle.protocol.specs.declared.Drive.{Drive}
 use Rattle.protocol.proofs.Kept.StateKept.{open_parts, call_kept}
 use Rattle.protocol.proofs.Kept.BookStays.{book_stays}
 
-pub nothing_allowed : (e : Endpoint) (g : Drive) → g.offer ≡ offer.Nothing → (p : Phase) → offer_allowed e g p ≡ true
+pub nothing_allowed : (e : Endpoint) (g : Drive) → g.offer ≡ None → (p : Phase) → offer_allowed e g p ≡ true
 unfolding offer_allowed
 nothing_allowed e g q (Exchanging slot version a s) = refl
 nothing_allowed e g q (Open slot version i line) = rw q
@@ -30,10 +29,10 @@ pub offers_nothing_allowed : (e : Endpoint) (heard : ℕ → ℕ) (given : ℕ �
 offers_nothing_allowed e heard given q t = nothing_allowed (end_at e heard given t) (given t) (q t) (end_at e heard given t).phase
 
 module _ (e : Endpoint) (w : well_formed e ≡ true) (g : Drive)
-    (fits : (u : ℕ) → g.offer ≡ offer.Unit u → (i version : ℕ) → i < e.book.n → has_unit (shape_of (entry_of e.book i) version) u ≡ true) where
-  offer_fits_lem : (version i : ℕ) → i < e.book.n → (f : Offer) → g.offer ≡ f → offer_fits e version i f ≡ true
-  offer_fits_lem version i l offer.Nothing q = refl
-  offer_fits_lem version i l (offer.Unit u) q = fits u q i version l
+    (fits : (u : ℕ) → g.offer ≡ Some u → (i version : ℕ) → i < e.book.n → has_unit (shape_of (entry_of e.book i) version) u ≡ true) where
+  offer_fits_lem : (version i : ℕ) → i < e.book.n → (f : Option ℕ) → g.offer ≡ f → offer_fits e version i f ≡ true
+  offer_fits_lem version i l None q = refl
+  offer_fits_lem version i l (Some u) q = fits u q i version l
 
   fit_allowed : (p : Phase) → e.phase ≡ p → offer_allowed e g p ≡ true
   unfolding offer_allowed well_formed

@@ -21,6 +21,7 @@ use Rattle.protocol.specs.Joined.{Joined, byte_of, arriving, joined, joined_slot
 use Rattle.premises.specs.Undamaged.{joined_at, hears_o, hears_a}
 use Rattle.protocol.specs.declared.Endpoint.{Endpoint}
 use Rattle.protocol.specs.declared.Drive.{Drive}
+use Rattle.protocol.specs.declared.SlotRefusal.TheVariants.{UnitOutOfRange, OutsideRanges}
 use Rattle.premises.proofs.WithinDamage.{Within, copy_as_sent, line_arrives}
 
 -- what is sent, arriving as it was sent, is within the allowed damage
@@ -46,7 +47,7 @@ byte_sent_lem : (e : Endpoint) (heard : ℕ) (g : Drive) → byte_of (slot_of e 
 unfolding slot_of slot_step byte_sent
 byte_sent_lem e heard g = by (well_formed e) (offer_allowed e g e.phase)
   where
-    by : (w a : Bool) → byte_of (cond w (cond a (passes (step_of e heard g)) (refuses e 12)) (refuses e 13)).reply
+    by : (w a : Bool) → byte_of (cond w (cond a (passes (step_of e heard g)) (refuses e UnitOutOfRange)) (refuses e OutsideRanges)).reply
         ≡ byte_sent (cond (w && a) (step_of e heard g) (step e Silence)).sent
     by true true = refl
     by true false = refl

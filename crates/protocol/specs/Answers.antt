@@ -1,5 +1,5 @@
 -- The answers of one end in document 01's numbers and values: each case of an answer, and what a state gives. Assumes nothing.
-use Rattle.std.specs.Prelude.{cond, List, [], ◌∷◌, ◌++◌, ℕ, eqb}
+use Rattle.std.specs.Prelude.{cond, List, [], ◌∷◌, ◌++◌, ℕ, eqb, Option, Some, None, Ok, Err}
 use Rattle.book.specs.declared.Entry.{Entry}
 use Rattle.channel.specs.Bytes.{bit_of}
 use Rattle.channel.specs.Kinds.{kind_of}
@@ -10,9 +10,7 @@ use Rattle.protocol.specs.Sent.{byte_sent}
 use Rattle.protocol.specs.Exchange.{entry_of}
 use Rattle.protocol.specs.Opened.{pair_form}
 use Rattle.protocol.specs.Ranges.{well_formed}
-use Rattle.protocol.specs.Slot.{Step, step_of, offer_allowed}
-use Rattle.protocol.specs.declared.Half.{Half}
-use Rattle.protocol.specs.declared.Half.TheVariants.{Empty, Holds}
+use Rattle.protocol.specs.Slot.{Step, step_of, offer_allowed, Reply, refusal_number}
 use Rattle.protocol.specs.declared.Shape.{Shape}
 use Rattle.protocol.specs.declared.Shape.TheVariants as shape
 use Rattle.protocol.specs.declared.Signals.{Signals}
@@ -21,19 +19,15 @@ use Rattle.protocol.specs.declared.Phase.{Phase}
 use Rattle.protocol.specs.declared.Phase.TheVariants.{Exchanging, Open, Refused}
 use Rattle.protocol.specs.declared.Endpoint.{Endpoint}
 use Rattle.protocol.specs.declared.Drive.{Drive}
-use Rattle.protocol.specs.declared.Delivered.{Delivered}
-use Rattle.protocol.specs.declared.Delivered.TheVariants as delivered
 use Rattle.protocol.specs.declared.Outcome.{Outcome}
 use Rattle.protocol.specs.declared.Outcome.TheVariants as outcome
-use Rattle.protocol.specs.declared.Reply.{Reply}
-use Rattle.protocol.specs.declared.Reply.TheVariants as reply
 
 -- Each case of an answer.
 
 -- the unit, or nothing
-abbrev pub says_delivered : Delivered → List ℕ
-says_delivered delivered.Nothing = []
-says_delivered (delivered.Unit u) = u ∷ []
+abbrev pub says_delivered : Option ℕ → List ℕ
+says_delivered None = []
+says_delivered (Some u) = u ∷ []
 
 -- an open end: 0, the version, the entry with its five parameters, the slot, leads s0 to s3 and BK
 abbrev pub open_says : ℕ → Entry → ℕ → Signals → List ℕ
@@ -49,15 +43,16 @@ says_outcome (outcome.Refused number slot) = number ∷ slot ∷ []
 
 -- 12 or 13 alone; or 0, the byte sent, what is delivered, whether the unit is taken, and where the end stands
 abbrev pub says_reply : Reply → List ℕ
-says_reply (reply.Refused number) = number ∷ []
-says_reply (reply.Passed sent d taken o) = 0 ∷ sent.0 ∷ (says_delivered d ++ (bit_of taken ∷ says_outcome o))
+says_reply (Err refusal) = refusal_number refusal ∷ []
+says_reply (Ok passed) =
+    0 ∷ passed.sent.0 ∷ (says_delivered passed.delivered ++ (bit_of passed.taken ∷ says_outcome passed.outcome))
 
 -- What a state gives.
 
 -- a word of form 0: a DL then at once a DH
-abbrev pub word_in : ℕ → Kind → Half → List ℕ
-word_in w (Dh high) (Holds low) = word_of w low high ∷ []
-word_in w (Dh high) Empty = []
+abbrev pub word_in : ℕ → Kind → Option ℕ → List ℕ
+word_in w (Dh high) (Some low) = word_of w low high ∷ []
+word_in w (Dh high) None = []
 word_in w (Dl x) half = []
 word_in w (Sd s bk) half = []
 word_in w Sgvi half = []

@@ -1,14 +1,12 @@
 -- A call: a start, and then slot after slot what is received and given. Assumes nothing.
-use Rattle.std.specs.Prelude.{◌≡◌, Bool, true, ℕ, zero, suc, ◌<◌}
+use Rattle.std.specs.Prelude.{◌≡◌, Bool, true, ℕ, zero, suc, ◌<◌, Option, Some, None}
 use Rattle.book.specs.declared.Book.{Book}
 use Rattle.protocol.specs.Sent.{Sent}
 use Rattle.protocol.specs.Exchange.{entry_of}
 use Rattle.protocol.specs.Opened.{shape_of, has_unit}
 use Rattle.protocol.specs.Slot.{slot_of, slot_step, offer_allowed, outcome_of}
 use Rattle.protocol.specs.declared.Endpoint.{Endpoint}
-use Rattle.protocol.specs.declared.Offer.TheVariants as offer
 use Rattle.protocol.specs.declared.Drive.{Drive}
-use Rattle.protocol.specs.declared.Delivered.{Delivered}
 use Rattle.protocol.specs.declared.Outcome.{Outcome}
 
 -- the end before slot t, from the byte received and what is given in each slot before it
@@ -20,7 +18,7 @@ end_at e heard given (suc t) = (slot_of (end_at e heard given t) (heard t) (give
 abbrev pub sent_at : Endpoint → (ℕ → ℕ) → (ℕ → Drive) → ℕ → Sent
 sent_at e heard given t = (slot_step (end_at e heard given t) (heard t) (given t)).sent
 
-abbrev pub delivered_at : Endpoint → (ℕ → ℕ) → (ℕ → Drive) → ℕ → Delivered
+abbrev pub delivered_at : Endpoint → (ℕ → ℕ) → (ℕ → Drive) → ℕ → Option ℕ
 delivered_at e heard given t = (slot_step (end_at e heard given t) (heard t) (given t)).delivered
 
 abbrev pub taken_at : Endpoint → (ℕ → ℕ) → (ℕ → Drive) → ℕ → Bool
@@ -36,9 +34,9 @@ Allowed e heard given = (t : ℕ) → offer_allowed (end_at e heard given t) (gi
 
 -- nothing is offered, ever
 abbrev pub OffersNothing : (ℕ → Drive) → Type 0
-OffersNothing given = (t : ℕ) → (given t).offer ≡ offer.Nothing
+OffersNothing given = (t : ℕ) → (given t).offer ≡ None
 
 -- each unit offered is in the range of every entry of the book, on every version
 abbrev pub OffersFit : Book → (ℕ → Drive) → Type 0
 OffersFit b given =
-    (t u : ℕ) → (given t).offer ≡ offer.Unit u → (i version : ℕ) → i < b.n → has_unit (shape_of (entry_of b i) version) u ≡ true
+    (t u : ℕ) → (given t).offer ≡ Some u → (i version : ℕ) → i < b.n → has_unit (shape_of (entry_of b i) version) u ≡ true

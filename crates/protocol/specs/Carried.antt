@@ -1,5 +1,5 @@
 -- What an end puts on the channel and what the other delivers and shows, slot by slot. Assumes nothing.
-use Rattle.std.specs.Prelude.{Bool, cond, List, [], ◌∷◌, ◌++◌, ℕ, zero, suc}
+use Rattle.std.specs.Prelude.{Bool, cond, List, [], ◌∷◌, ◌++◌, ℕ, zero, suc, Option, Some, None}
 use Rattle.channel.specs.declared.kind.Kind.{Kind}
 use Rattle.channel.specs.declared.kind.Kind.TheVariants.{Sgvi, Sgp, Sgr, Dl, Dh, Sd, Other}
 use Rattle.channel.specs.Kinds.{kind_of}
@@ -9,16 +9,12 @@ use Rattle.protocol.specs.Call.{sent_at, delivered_at, taken_at}
 use Rattle.protocol.specs.declared.Shape.{Shape}
 use Rattle.protocol.specs.declared.Shape.TheVariants as shape
 use Rattle.protocol.specs.declared.Signals.{Signals}
-use Rattle.protocol.specs.declared.Offer.{Offer}
-use Rattle.protocol.specs.declared.Offer.TheVariants as offer
 use Rattle.protocol.specs.declared.Drive.{Drive}
-use Rattle.protocol.specs.declared.Delivered.{Delivered}
-use Rattle.protocol.specs.declared.Delivered.TheVariants as delivered
 use Rattle.protocol.specs.declared.Endpoint.{Endpoint}
 
-abbrev pub offered : Offer → List ℕ
-offered offer.Nothing = []
-offered (offer.Unit u) = u ∷ []
+abbrev pub offered : Option ℕ → List ℕ
+offered None = []
+offered (Some u) = u ∷ []
 
 -- a unit that goes though none was taken
 abbrev pub fill : Sent → List ℕ
@@ -28,12 +24,12 @@ fill (Part place value) = []
 fill (Unit f u) = u ∷ []
 
 -- the unit taken, or the fill
-abbrev pub carried : Bool → Offer → Sent → List ℕ
+abbrev pub carried : Bool → Option ℕ → Sent → List ℕ
 carried taken o sent = cond taken (offered o) (fill sent)
 
-abbrev pub units_out : Delivered → List ℕ
-units_out delivered.Nothing = []
-units_out (delivered.Unit u) = u ∷ []
+abbrev pub units_out : Option ℕ → List ℕ
+units_out None = []
+units_out (Some u) = u ∷ []
 
 -- all units that a call carried, and delivered, in the slots before t
 unfoldable pub carried_before : Endpoint → (ℕ → ℕ) → (ℕ → Drive) → ℕ → List ℕ

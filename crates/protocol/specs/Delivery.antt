@@ -1,5 +1,5 @@
 -- What is promised of each direction of the open pair. Assumes nothing.
-use Rattle.std.specs.Prelude.{◌≡◌, true, false, ℕ, ◌+◌, ◌-◌, ◌<◌, length, get_or}
+use Rattle.std.specs.Prelude.{◌≡◌, true, false, ℕ, ◌+◌, ◌-◌, ◌<◌, length, get_or, Option, Some}
 use Rattle.book.specs.declared.Book.{Book}
 use Rattle.channel.specs.declared.unit.Form.{Form}
 use Rattle.channel.specs.Forms.{units_of}
@@ -13,8 +13,6 @@ use Rattle.protocol.specs.Pair.{shared_version}
 use Rattle.protocol.specs.Carried.{carried_before, delivered_before, lag, shown_after}
 use Rattle.protocol.specs.declared.Shape.{Shape}
 use Rattle.protocol.specs.declared.Signals.{Signals}
-use Rattle.protocol.specs.declared.Offer.{Offer}
-use Rattle.protocol.specs.declared.Offer.TheVariants as offer
 use Rattle.protocol.specs.declared.Outcome.{Outcome}
 use Rattle.protocol.specs.declared.Outcome.TheVariants as outcome
 use Rattle.protocol.specs.declared.Endpoint.{Endpoint}
@@ -32,9 +30,9 @@ pub record AllOnes (f : Form) (u : ℕ) : Type 0 where
   pub ones : u ≡ units_of f - 1
 
 -- a unit was offered, and is u
-pub record Offered (o : Offer) : Type 0 where
+pub record Offered (o : Option ℕ) : Type 0 where
   pub unit : ℕ
-  pub is : o ≡ offer.Unit unit
+  pub is : o ≡ Some unit
 
 -- the all-ones fill goes, and is u
 pub record Filled (s : Sent) (u : ℕ) : Type 0 where
@@ -46,7 +44,7 @@ pub record Filled (s : Sent) (u : ℕ) : Type 0 where
 pub record CameFrom (e : Endpoint) (heard : ℕ → ℕ) (given : ℕ → Drive) (place value : ℕ) : Type 0 where
   pub slot : ℕ
   pub before : length (carried_before e heard given slot) ≡ place
-  pub offered : taken_at e heard given slot ≡ true → (given slot).offer ≡ offer.Unit value
+  pub offered : taken_at e heard given slot ≡ true → (given slot).offer ≡ Some value
   pub filled : taken_at e heard given slot ≡ false → Filled (sent_at e heard given slot) value
 
 -- What one end takes, the other delivers. The sender sends as an open end from slot x on.

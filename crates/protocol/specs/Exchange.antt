@@ -1,5 +1,6 @@
 -- The exchange, answering and originating, but for the clock. Assumes nothing.
 use Rattle.std.specs.Prelude.{Bool, true, false, cond, not, ◌&&◌, List, ℕ, zero, suc, ◌+◌, ◌*◌, min, eqb, ltb, leb, get_or, drop, replicate}
+use Rattle.std.specs.Prelude.{Option, Some, None}
 use Rattle.ground.specs.Digits.{bit}
 use Rattle.book.specs.declared.Entry.{Entry}
 use Rattle.book.specs.declared.Book.{Book}
@@ -15,8 +16,6 @@ use Rattle.protocol.specs.declared.Hearing.{Hearing}
 use Rattle.protocol.specs.declared.Exchange.{Exchange}
 use Rattle.protocol.specs.declared.Sending.{Sending}
 use Rattle.protocol.specs.declared.Sending.TheVariants.{Idle, Hail, Mask, Parameters, Done}
-use Rattle.protocol.specs.declared.Match.{Match}
-use Rattle.protocol.specs.declared.Match.TheVariants as match
 use Rattle.protocol.specs.declared.Fate.{Fate}
 use Rattle.protocol.specs.declared.Fate.TheVariants.{Stays, OpensHearing, OpensSending, Refuses}
 
@@ -70,13 +69,13 @@ abbrev pub matches : ℕ → Entry → List ℕ → Bool
 matches version e values = not (left_out version e) && has_params e values
 
 -- the entry that is matched among the first n
-unfoldable pub match_in : ℕ → List Entry → List ℕ → ℕ → Match
-match_in version entries values zero = match.Nothing
+unfoldable pub match_in : ℕ → List Entry → List ℕ → ℕ → Option ℕ
+match_in version entries values zero = None
 match_in version entries values (suc i) =
-    cond (matches version (get_or entries i no_entry) values) (match.Entry i) (match_in version entries values i)
+    cond (matches version (get_or entries i no_entry) values) (Some i) (match_in version entries values i)
 
 -- the entry that has the other end's parameters, on the version settled
-abbrev pub matched : Book → ℕ → Hearing → Match
+abbrev pub matched : Book → ℕ → Hearing → Option ℕ
 matched b version h = match_in version b.entries (heard_params h) b.n
 
 -- The byte acts.
@@ -141,9 +140,9 @@ abbrev pub mask_sent : Book → ℕ → ℕ
 mask_sent b version = cond (originates b && eqb version 0) 0 (identifier b)
 
 -- the originator's values if some entry equals them, else those of entry 0; an originator's are those of entry 0
-abbrev pub answered : Match → List ℕ → List ℕ → List ℕ
-answered (match.Entry i) theirs own = theirs
-answered match.Nothing theirs own = own
+abbrev pub answered : Option ℕ → List ℕ → List ℕ → List ℕ
+answered (Some i) theirs own = theirs
+answered None theirs own = own
 
 abbrev pub values_sent : Book → ℕ → Hearing → List ℕ
 values_sent b version h =
@@ -180,9 +179,9 @@ last_of_all b (Parameters i) = leb (all_parameter_bytes b) (i + 1)
 last_of_all b Done = false
 
 -- with the last byte sent an answerer opens if some entry equals the originator's values, else refuses 22
-abbrev pub opens_on : Match → Fate
-opens_on (match.Entry i) = OpensSending i
-opens_on match.Nothing = Refuses 22
+abbrev pub opens_on : Option ℕ → Fate
+opens_on (Some i) = OpensSending i
+opens_on None = Refuses 22
 
 -- what the byte sent brings about. Originating: 21 with the sixth byte of 00; all sent and all received
 unfoldable pub fate_sent : Book → Exchange → Sending → Fate

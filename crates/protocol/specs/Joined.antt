@@ -1,13 +1,10 @@
 -- Two ends joined by a channel that does no damage, as a program runs them. Assumes nothing.
-use Rattle.std.specs.Prelude.{false, List, [], ◌∷◌, ◌++◌, ℕ, get_or, drop, replicate}
+use Rattle.std.specs.Prelude.{false, List, [], ◌∷◌, ◌++◌, ℕ, get_or, drop, replicate, None, Ok, Err}
 use Rattle.channel.specs.Bytes.{sgidle}
 use Rattle.protocol.specs.Opened.{idle_leads, drive_with}
-use Rattle.protocol.specs.Slot.{slot_of}
+use Rattle.protocol.specs.Slot.{slot_of, Reply}
 use Rattle.protocol.specs.declared.Endpoint.{Endpoint}
-use Rattle.protocol.specs.declared.Offer.TheVariants as offer
 use Rattle.protocol.specs.declared.Drive.{Drive}
-use Rattle.protocol.specs.declared.Reply.{Reply}
-use Rattle.protocol.specs.declared.Reply.TheVariants.{Refused, Passed}
 
 -- the originator, the answerer, and the bytes on their way to each, the next to arrive first
 pub record Joined : Type 0 where
@@ -18,12 +15,12 @@ pub record Joined : Type 0 where
 
 -- what each end is given: leads 0100, no break, no unit offered
 abbrev pub idle : Drive
-idle = drive_with idle_leads false offer.Nothing
+idle = drive_with idle_leads false None
 
 -- the byte of a slot that has passed
 abbrev pub byte_of : Reply → ℕ
-byte_of (Refused n) = sgidle
-byte_of (Passed sent delivered taken outcome) = sent.0
+byte_of (Err refusal) = sgidle
+byte_of (Ok passed) = passed.sent.0
 
 abbrev pub arriving : List ℕ → ℕ
 arriving bytes = get_or bytes 0 sgidle

@@ -1,5 +1,5 @@
 -- Open: what an open end reads, delivers, takes and sends. Assumes nothing.
-use Rattle.std.specs.Prelude.{Bool, true, false, cond, not, ◌&&◌, ◌||◌, ℕ, ◌+◌, ◌*◌, ◌-◌, ◌/◌, eqb, ltb}
+use Rattle.std.specs.Prelude.{Bool, true, false, cond, not, ◌&&◌, ◌||◌, ℕ, ◌+◌, ◌*◌, ◌-◌, ◌/◌, eqb, ltb, Option, Some, None}
 use Rattle.std.specs.Bool.{beq}
 use Rattle.book.specs.declared.Entry.{Entry}
 use Rattle.channel.specs.declared.byte.Leads.{Leads}
@@ -11,8 +11,6 @@ use Rattle.channel.specs.Bytes.{sd_byte, dl_byte, dh_byte}
 use Rattle.channel.specs.Kinds.{kind_of}
 use Rattle.channel.specs.Forms.{units_of, unit_in, is_data, fits, word_fits, word_of}
 use Rattle.protocol.specs.Sent.{Sent, Alone, Unit}
-use Rattle.protocol.specs.declared.Half.{Half}
-use Rattle.protocol.specs.declared.Half.TheVariants.{Empty, Holds}
 use Rattle.protocol.specs.declared.Shape.{Shape}
 use Rattle.protocol.specs.declared.Shape.TheVariants as shape
 use Rattle.protocol.specs.declared.Signals.{Signals}
@@ -21,11 +19,7 @@ use Rattle.protocol.specs.declared.Claim.TheVariants.{Free, Second, Owed}
 use Rattle.protocol.specs.declared.Outbound.{Outbound}
 use Rattle.protocol.specs.declared.Inbound.{Inbound}
 use Rattle.protocol.specs.declared.Line.{Line}
-use Rattle.protocol.specs.declared.Offer.{Offer}
-use Rattle.protocol.specs.declared.Offer.TheVariants as offer
 use Rattle.protocol.specs.declared.Drive.{Drive}
-use Rattle.protocol.specs.declared.Delivered.{Delivered}
-use Rattle.protocol.specs.declared.Delivered.TheVariants as delivered
 
 -- how an entry's data is laid on a version
 unfoldable pub shape_of : Entry → ℕ → Shape
@@ -70,15 +64,15 @@ abbrev pub idle_signals : Signals
 idle_signals = record { leads = idle_leads; bk = false }
 
 -- the sending half and the receiving half, put together
-abbrev pub outbound_of : ℕ → Half → Claim → (last before : Signals) → Outbound
+abbrev pub outbound_of : ℕ → Option ℕ → Claim → (last before : Signals) → Outbound
 outbound_of opening due claim last before = record { opening = opening; due = due; claim = claim; last = last; before = before }
 
-abbrev pub inbound_of : Half → ℕ → (last standing : Signals) → Inbound
+abbrev pub inbound_of : Option ℕ → ℕ → (last standing : Signals) → Inbound
 inbound_of half pair last standing = record { half = half; pair = pair; last = last; standing = standing }
 
 -- at the opening nothing has gone, and it is as if two Sdidle had gone and two had come
 unfoldable pub fresh_line : Line
-fresh_line = record { outbound = outbound_of 0 Empty Free idle_signals idle_signals; inbound = inbound_of Empty 0 idle_signals idle_signals }
+fresh_line = record { outbound = outbound_of 0 None Free idle_signals idle_signals; inbound = inbound_of None 0 idle_signals idle_signals }
 
 -- Receiving.
 
@@ -102,29 +96,29 @@ agreed_signals last now standing =
 -- what a received byte makes of the receiving half, and what it delivers
 pub record Reading : Type 0 where
   pub inbound : Inbound
-  pub delivered : Delivered
+  pub delivered : Option ℕ
 
-abbrev pub reads : Inbound → Half → ℕ → Delivered → Reading
+abbrev pub reads : Inbound → Option ℕ → ℕ → Option ℕ → Reading
 reads i half pair d = record { inbound = inbound_of half pair i.last i.standing; delivered = d }
 
 -- an Sd drops the half, and the first byte of a pair
 abbrev pub reads_sd : Inbound → Leads → Bool → Reading
 reads_sd i leads bk =
     let now : Signals = record { leads = leads; bk = bk } in
-    record { inbound = inbound_of Empty 0 now (agreed_signals i.last now i.standing); delivered = delivered.Nothing }
+    record { inbound = inbound_of None 0 now (agreed_signals i.last now i.standing); delivered = None }
 
 abbrev pub quiet : Inbound → Reading
-quiet i = reads i Empty 0 delivered.Nothing
+quiet i = reads i None 0 None
 
 -- a DL then at once a DH delivers a word
-abbrev pub word_with : ℕ → Half → ℕ → Delivered
-word_with w Empty high = delivered.Nothing
-word_with w (Holds low) high = delivered.Unit (word_of w low high)
+abbrev pub word_with : ℕ → Option ℕ → ℕ → Option ℕ
+word_with w None high = None
+word_with w (Some low) high = Some (word_of w low high)
 
 -- form 0: anything else drops the half; while BK stands on, data is ignored
 unfoldable pub reads_word : ℕ → Inbound → Kind → Reading
-reads_word w i (Dl x) = cond i.standing.bk (quiet i) (reads i (Holds x) 0 delivered.Nothing)
-reads_word w i (Dh x) = cond i.standing.bk (quiet i) (reads i Empty 0 (word_with w i.half x))
+reads_word w i (Dl x) = cond i.standing.bk (quiet i) (reads i (Some x) 0 None)
+reads_word w i (Dh x) = cond i.standing.bk (quiet i) (reads i None 0 (word_with w i.half x))
 reads_word w i (Sd s bk) = reads_sd i s bk
 reads_word w i Sgvi = quiet i
 reads_word w i (Sgp k) = quiet i
@@ -142,12 +136,12 @@ reads_idle i Sgr = quiet i
 reads_idle i Other = quiet i
 
 unfoldable pub reads_six : Inbound → ℕ → Reading
-reads_six i b = cond (is_data Six b) (reads i Empty 0 (delivered.Unit (unit_in Six b))) (reads_idle i (kind_of b))
+reads_six i b = cond (is_data Six b) (reads i None 0 (Some (unit_in Six b))) (reads_idle i (kind_of b))
 
 -- forms 7 and 8: the pair is a DL and at once a DH, both with no bit on
 abbrev pub reads_pair : Inbound → Kind → Reading
-reads_pair i (Dl x) = reads i Empty (cond (eqb x 0) 1 0) delivered.Nothing
-reads_pair i (Dh x) = reads i Empty (cond (eqb x 0 && eqb i.pair 1) 2 0) delivered.Nothing
+reads_pair i (Dl x) = reads i None (cond (eqb x 0) 1 0) None
+reads_pair i (Dh x) = reads i None (cond (eqb x 0 && eqb i.pair 1) 2 0) None
 reads_pair i (Sd s bk) = reads_sd i s bk
 reads_pair i Sgvi = quiet i
 reads_pair i (Sgp k) = quiet i
@@ -156,7 +150,7 @@ reads_pair i Other = quiet i
 
 -- they deliver every byte after the first received pair
 unfoldable pub reads_stream : Form → Inbound → ℕ → Reading
-reads_stream f i b = cond (eqb i.pair 2) (reads i Empty 2 (delivered.Unit (unit_in f b))) (reads_pair i (kind_of b))
+reads_stream f i b = cond (eqb i.pair 2) (reads i None 2 (Some (unit_in f b))) (reads_pair i (kind_of b))
 
 abbrev pub reads_form : Form → Inbound → ℕ → Reading
 reads_form Six i b = reads_six i b
@@ -171,7 +165,7 @@ reading (shape.Unit f) i b = reads_form f i b
 -- Sending.
 
 -- what a slot is given besides the received byte, put together
-abbrev pub drive_with : Leads → Bool → Offer → Drive
+abbrev pub drive_with : Leads → Bool → Option ℕ → Drive
 drive_with leads flag offer = record { leads = leads; flag = flag; offer = offer }
 
 -- what is sent, whether the offered unit is taken, and what becomes of the sending half
@@ -188,20 +182,20 @@ bk_sent s g = is_word s && g.flag
 abbrev pub writes_sd : Shape → Outbound → ℕ → Claim → Leads → Drive → Writing
 writes_sd s o opening claim leads g =
     record {
-      outbound = outbound_of opening Empty claim (record { leads = leads; bk = bk_sent s g }) o.last;
+      outbound = outbound_of opening None claim (record { leads = leads; bk = bk_sent s g }) o.last;
       sent = Alone (sd_byte leads (bk_sent s g));
       taken = false;
     }
 
 -- a byte that is no Sd: nobody has a claim on the line after it
-abbrev pub writes : Outbound → ℕ → Half → Sent → Bool → Writing
+abbrev pub writes : Outbound → ℕ → Option ℕ → Sent → Bool → Writing
 writes o opening due sent taken = record { outbound = outbound_of opening due Free o.last o.before; sent = sent; taken = taken }
 
 -- the first bytes: 16 Sd with the leads given, then in forms 7 and 8 the pair 05 0D
 unfoldable pub writes_opening : Shape → Outbound → Drive → Writing
 writes_opening s o g =
     cond (ltb o.opening opening_sd) (writes_sd s o (o.opening + 1) Free g.leads g)
-    (writes o (o.opening + 1) Empty (Alone (cond (eqb o.opening opening_sd) 0x05 0x0D)) false)
+    (writes o (o.opening + 1) None (Alone (cond (eqb o.opening opening_sd) 0x05 0x0D)) false)
 
 -- After the first bytes, in forms 0 and 6 the first of six rules that applies; they stand here from the last to the first.
 
@@ -210,17 +204,17 @@ abbrev pub writes_given : Shape → Outbound → Drive → Writing
 writes_given s o g = writes_sd s o o.opening o.claim g.leads g
 
 -- 5: an offered unit is taken, and none is owed the line any more; in form 0 its DH is due then
-abbrev pub writes_word : ℕ → Outbound → Drive → Offer → Writing
-writes_word w o g offer.Nothing = writes_given (shape.Word w) o g
-writes_word w o g (offer.Unit u) = writes o o.opening (Holds (u / 16)) (Alone (dl_byte u)) true
+abbrev pub writes_word : ℕ → Outbound → Drive → Option ℕ → Writing
+writes_word w o g None = writes_given (shape.Word w) o g
+writes_word w o g (Some u) = writes o o.opening (Some (u / 16)) (Alone (dl_byte u)) true
 
 -- forms 6, 7 and 8; with none taken form 6 sends Sd, forms 7 and 8 the unit of all ones
-abbrev pub writes_unit : Form → Outbound → Drive → Offer → Writing
-writes_unit f o g (offer.Unit u) = writes o o.opening Empty (Unit f u) true
-writes_unit f o g offer.Nothing =
-    cond (pair_form f) (writes o o.opening Empty (Unit f (units_of f - 1)) false) (writes_given (shape.Unit f) o g)
+abbrev pub writes_unit : Form → Outbound → Drive → Option ℕ → Writing
+writes_unit f o g (Some u) = writes o o.opening None (Unit f u) true
+writes_unit f o g None =
+    cond (pair_form f) (writes o o.opening None (Unit f (units_of f - 1)) false) (writes_given (shape.Unit f) o g)
 
-abbrev pub writes_offer : Shape → Outbound → Drive → Offer → Writing
+abbrev pub writes_offer : Shape → Outbound → Drive → Option ℕ → Writing
 writes_offer (shape.Word w) o g x = writes_word w o g x
 writes_offer (shape.Unit f) o g x = writes_unit f o g x
 
@@ -244,9 +238,9 @@ abbrev pub held : (flag bk1 bk2 : Bool) → Bool
 held flag bk1 bk2 = flag || (bk1 || bk2)
 
 -- 1, form 0: a DH due
-abbrev pub writes_due : ℕ → Outbound → Drive → Half → Writing
-writes_due w o g (Holds high) = writes o o.opening Empty (Alone (dh_byte (16 * high))) false
-writes_due w o g Empty =
+abbrev pub writes_due : ℕ → Outbound → Drive → Option ℕ → Writing
+writes_due w o g (Some high) = writes o o.opening None (Alone (dh_byte (16 * high))) false
+writes_due w o g None =
     cond (held g.flag o.last.bk o.before.bk) (writes_given (shape.Word w) o g) (writes_claim (shape.Word w) o g o.claim)
 
 -- in forms 7 and 8 leads claim nothing: a unit is taken, or the unit of all ones goes

@@ -1,5 +1,5 @@
 -- The ranges behind refusal 13: a count, position or value outside the range that its phase, role and book allow. Assumes nothing.
-use Rattle.std.specs.Prelude.{Bool, true, false, cond, not, ◌&&◌, ◌||◌, List, ℕ, ◌+◌, ◌-◌, ◌*◌, eqb, ltb, leb, drop}
+use Rattle.std.specs.Prelude.{Bool, true, false, cond, not, ◌&&◌, ◌||◌, List, ℕ, ◌+◌, ◌-◌, ◌*◌, eqb, ltb, leb, drop, Option, Some, None}
 use Rattle.ground.specs.Digits.{bit, all_below}
 use Rattle.book.specs.declared.Book.{Book}
 use Rattle.book.specs.Kept.{book_ok}
@@ -12,8 +12,6 @@ use Rattle.protocol.specs.declared.Awaited.{Awaited}
 use Rattle.protocol.specs.declared.Awaited.TheVariants.{Run, Group, Nothing}
 use Rattle.protocol.specs.declared.Sending.{Sending}
 use Rattle.protocol.specs.declared.Sending.TheVariants.{Idle, Hail, Mask, Parameters, Done}
-use Rattle.protocol.specs.declared.Half.{Half}
-use Rattle.protocol.specs.declared.Half.TheVariants.{Empty, Holds}
 use Rattle.protocol.specs.declared.Shape.{Shape}
 use Rattle.protocol.specs.declared.Shape.TheVariants as shape
 use Rattle.protocol.specs.declared.Claim.{Claim}
@@ -89,22 +87,22 @@ version_in b a s version =
     cond (has_identifier a) (is_version b version || (may_lack b s && eqb version 0)) (eqb version 0)
 
 -- the high nibble due is of a word of w bits, after the first bytes; a received low nibble is any
-abbrev pub due_in : Shape → ℕ → Half → Bool
-due_in (shape.Word w) opening Empty = true
-due_in (shape.Word w) opening (Holds high) = leb opening_sd opening && word_fits w (16 * high)
-due_in (shape.Unit f) opening Empty = true
-due_in (shape.Unit f) opening (Holds high) = false
+abbrev pub due_in : Shape → ℕ → Option ℕ → Bool
+due_in (shape.Word w) opening None = true
+due_in (shape.Word w) opening (Some high) = leb opening_sd opening && word_fits w (16 * high)
+due_in (shape.Unit f) opening None = true
+due_in (shape.Unit f) opening (Some high) = false
 
-abbrev pub half_in : Shape → Half → Bool
-half_in s Empty = true
-half_in s (Holds low) = is_word s && ltb low 16
+abbrev pub half_in : Shape → Option ℕ → Bool
+half_in s None = true
+half_in s (Some low) = is_word s && ltb low 16
 
 -- a second Sd is due, or a unit owed the line, in forms 0 and 6 alone, after the 16 Sd, and while no DH is due
-abbrev pub none_due : Half → Bool
-none_due Empty = true
-none_due (Holds high) = false
+abbrev pub none_due : Option ℕ → Bool
+none_due None = true
+none_due (Some high) = false
 
-abbrev pub claim_in : Shape → ℕ → Half → Claim → Bool
+abbrev pub claim_in : Shape → ℕ → Option ℕ → Claim → Bool
 claim_in s opening due Free = true
 claim_in s opening due (Second leads) = not (has_pair s) && leb opening_sd opening && none_due due
 claim_in s opening due Owed = not (has_pair s) && leb opening_sd opening && none_due due

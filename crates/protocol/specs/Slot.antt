@@ -1,7 +1,8 @@
 -- One slot of one end. Assumes nothing.
-use Rattle.std.specs.Prelude.{Bool, true, false, cond, ◌&&◌, ℕ, ◌+◌, ltb}
+use Rattle.std.specs.Prelude.{Bool, true, false, cond, ◌&&◌, ℕ, ◌+◌, ltb, Option, Some, None, Result, Ok, Err}
 use Rattle.book.specs.declared.Book.{Book}
 use Rattle.book.specs.declared.BookRead.{BookRead}
+use Rattle.channel.specs.declared.byte.ChannelByte.{ChannelByte}
 use Rattle.channel.specs.Bytes.{byte, sdidle}
 use Rattle.channel.specs.Kinds.{kind_of}
 use Rattle.protocol.specs.Collecting.{no_nibbles}
@@ -18,14 +19,12 @@ use Rattle.protocol.specs.declared.Line.{Line}
 use Rattle.protocol.specs.declared.Phase.{Phase}
 use Rattle.protocol.specs.declared.Phase.TheVariants.{Exchanging, Open, Refused}
 use Rattle.protocol.specs.declared.Endpoint.{Endpoint}
-use Rattle.protocol.specs.declared.Offer.{Offer}
-use Rattle.protocol.specs.declared.Offer.TheVariants as offer
 use Rattle.protocol.specs.declared.Drive.{Drive}
-use Rattle.protocol.specs.declared.Delivered.{Delivered}
-use Rattle.protocol.specs.declared.Delivered.TheVariants as delivered
 use Rattle.protocol.specs.declared.Outcome.{Outcome}
 use Rattle.protocol.specs.declared.Outcome.TheVariants as outcome
-use Rattle.protocol.specs.declared.Reply.TheVariants as reply
+use Rattle.protocol.specs.declared.Passed.{Passed}
+use Rattle.protocol.specs.declared.SlotRefusal.{SlotRefusal}
+use Rattle.protocol.specs.declared.SlotRefusal.TheVariants.{UnitOutOfRange, OutsideRanges}
 use Rattle.protocol.specs.declared.SlotAnswer.{SlotAnswer}
 use Rattle.protocol.specs.declared.Start.{Start}
 
@@ -60,11 +59,11 @@ start_of r = record { verdict = r.verdict; state = started r.book }
 pub record Step : Type 0 where
   pub state : Endpoint
   pub sent : Sent
-  pub delivered : Delivered
+  pub delivered : Option ℕ
   pub taken : Bool
 
 abbrev pub step : Endpoint → Sent → Step
-step e s = record { state = e; sent = s; delivered = delivered.Nothing; taken = false }
+step e s = record { state = e; sent = s; delivered = None; taken = false }
 
 -- an end neither open nor refused after acting and sending in slot L-1 refuses 23
 unfoldable pub clocked : Book → ℕ → Exchange → Endpoint
@@ -117,9 +116,9 @@ abbrev pub step_of : Endpoint → ℕ → Drive → Step
 step_of e heard g = step_at e heard g e.phase
 
 -- 12: a unit out of range is offered to an end open before the slot; an end not open ignores the offer
-abbrev pub offer_fits : Endpoint → ℕ → ℕ → Offer → Bool
-offer_fits e version i offer.Nothing = true
-offer_fits e version i (offer.Unit u) = has_unit (shape_of (entry_of e.book i) version) u
+abbrev pub offer_fits : Endpoint → ℕ → ℕ → Option ℕ → Bool
+offer_fits e version i None = true
+offer_fits e version i (Some u) = has_unit (shape_of (entry_of e.book i) version) u
 
 unfoldable pub offer_allowed : Endpoint → Drive → Phase → Bool
 offer_allowed e g (Exchanging slot version a s) = true
@@ -135,16 +134,30 @@ outcome_at e (Refused number slot) = outcome.Refused number slot
 abbrev pub outcome_of : Endpoint → Outcome
 outcome_of e = outcome_at e e.phase
 
+-- a slot passes, or is refused
+abbrev pub Reply : Type 0
+Reply = Result Passed SlotRefusal
+
+-- what a slot that has passed brings, put together
+abbrev pub passed_with : ChannelByte → Option ℕ → Bool → Outcome → Reply
+passed_with sent delivered taken outcome =
+    Ok (record { sent = sent; delivered = delivered; taken = taken; outcome = outcome })
+
 abbrev pub passes : Step → SlotAnswer
 passes s =
     record {
       state = s.state;
-      reply = reply.Passed (byte (byte_sent s.sent)) s.delivered s.taken (outcome_of s.state);
+      reply = passed_with (byte (byte_sent s.sent)) s.delivered s.taken (outcome_of s.state);
     }
 
--- 12 and 13 give back the state as it came
-abbrev pub refuses : Endpoint → ℕ → SlotAnswer
-refuses e number = record { state = e; reply = reply.Refused number }
+-- the numbers of refusal
+abbrev pub refusal_number : SlotRefusal → ℕ
+refusal_number UnitOutOfRange = 12
+refusal_number OutsideRanges = 13
+
+-- a refused slot gives back the state as it came
+abbrev pub refuses : Endpoint → SlotRefusal → SlotAnswer
+refuses e refusal = record { state = e; reply = Err refusal }
 
 -- what a slot brings: one that is refused leaves the state as it came, and in it nothing is sent, delivered or taken
 unfoldable pub slot_step : Endpoint → ℕ → Drive → Step
@@ -154,5 +167,5 @@ slot_step e heard g = cond (well_formed e && offer_allowed e g e.phase) (step_of
 unfoldable pub slot_of : Endpoint → ℕ → Drive → SlotAnswer
 slot_of e heard g =
     cond (well_formed e)
-    (cond (offer_allowed e g e.phase) (passes (step_of e heard g)) (refuses e 12))
-    (refuses e 13)
+    (cond (offer_allowed e g e.phase) (passes (step_of e heard g)) (refuses e UnitOutOfRange))
+    (refuses e OutsideRanges)

@@ -1,12 +1,15 @@
-// The types of one end of a call. No code: what a slot does is defined in specs/.
+// The types of one end of a call. No code but the numbers of a slot's refusal: what a slot does is defined in specs/.
 #![tactic(auto)]
 
-use book::{Book, Entry, Verdict};
+ghost use Rattle.std.specs.Prelude.{◌≡◌};
+ghost use Rattle.protocol.specs.Slot.{refusal_number};
+
+use book::{Book, Entry, Fault};
 use channel::byte::{ChannelByte, Leads};
 use channel::unit::Form;
 
-// What is awaited in the exchange. Item 0 is the identifier, item k + 1 is parameter k.
-#[derive(Clone, Copy)]
+// What is awaited in the exchange. Item 0 is the identifier, item k + 1 is parameter k: items are counted on, so they are numbers.
+#[derive(Clone, Copy, PartialEq, Eq, Debug)]
 pub enum Awaited {
     // the run for an item, of which so many bytes have come
     Run { item: u8, count: u8 },
@@ -17,7 +20,7 @@ pub enum Awaited {
 }
 
 // What is sent in the exchange.
-#[derive(Clone, Copy)]
+#[derive(Clone, Copy, PartialEq, Eq, Debug)]
 pub enum Sending {
     // Sdidle
     Idle,
@@ -29,13 +32,6 @@ pub enum Sending {
     Parameters(u16),
     // Sdidle, all parameters being sent
     Done,
-}
-
-// A nibble that may be held.
-#[derive(Clone, Copy)]
-pub enum Half {
-    Empty,
-    Holds(u8),
 }
 
 // How the data of an open end is laid: words of so many bits, or units of one byte.
@@ -69,7 +65,7 @@ pub struct Outbound {
     // how many of the first bytes have gone: 16 Sd, and in forms 7 and 8 the pair
     pub opening: u8,
     // the high nibble whose DH is due, in form 0
-    pub due: Half,
+    pub due: Option<u8>,
     pub claim: Claim,
     // the last Sd sent, and the one before it
     pub last: Signals,
@@ -80,8 +76,8 @@ pub struct Outbound {
 #[derive(Clone, Copy)]
 pub struct Inbound {
     // the low nibble whose DL has just come, in form 0
-    pub half: Half,
-    // how much of the pair 05 0D has come, in forms 7 and 8
+    pub half: Option<u8>,
+    // how much of the pair 05 0D has come, in forms 7 and 8: a number, since 13 refuses a stored state with more than 2
     pub pair: u8,
     // the last Sd received, and the signals as they stand
     pub last: Signals,
@@ -101,6 +97,7 @@ pub struct Line {
 pub enum Phase {
     Exchanging {
         slot: u16,
+        // 0 for none, not an option: a stored state may hold any number, and 13 refuses those that its phase can't have
         version: u8,
         awaited: Awaited,
         sending: Sending,
@@ -112,6 +109,7 @@ pub enum Phase {
         line: Line,
     },
     Refused {
+        // a number, not an enum: a stored state may hold any, and 13 refuses all but 21, 22 and 23
         number: u8,
         slot: u16,
     },
@@ -121,7 +119,7 @@ pub enum Phase {
 #[derive(Clone, Copy)]
 pub struct Endpoint {
     pub book: Book,
-    // the nibbles of the group in hand, zeros past them
+    // the nibbles of the group in hand, zeros past them: an array, as document 01 has it, of which the phase says how many
     pub nibbles: [u8; 6],
     // the values voted so far, the identifier and p0 to p4, zeros past them
     pub values: [u8; 6],
@@ -144,27 +142,15 @@ pub struct Exchange {
     pub sending: Sending,
 }
 
-// The entry that has certain parameters.
-#[derive(Clone, Copy)]
-pub enum Match {
-    Entry(u8),
-    Nothing,
-}
-
 // What becomes of the exchange in a slot.
-#[derive(Clone, Copy)]
+#[derive(Clone, Copy, PartialEq, Eq, Debug)]
 pub enum Fate {
     Stays,
     // opened by the received byte, or by the own last byte, on an entry
     OpensHearing(u8),
     OpensSending(u8),
+    // under a number, as the phase keeps it
     Refuses(u8),
-}
-
-#[derive(Clone, Copy)]
-pub enum Offer {
-    Nothing,
-    Unit(u8),
 }
 
 // What a slot is given besides the received byte.
@@ -172,13 +158,8 @@ pub enum Offer {
 pub struct Drive {
     pub leads: Leads,
     pub flag: bool,
-    pub offer: Offer,
-}
-
-#[derive(Clone, Copy)]
-pub enum Delivered {
-    Nothing,
-    Unit(u8),
+    // the unit offered
+    pub offer: Option<u8>,
 }
 
 // Where an end stands. Its profile is the entry that it opened on; its signals are the leads and BK received, as they stand.
@@ -192,32 +173,56 @@ pub enum Outcome {
         signals: Signals,
     },
     Refused {
+        // a number, not an enum: that of a stored state is told as it stands
         number: u8,
         slot: u16,
     },
 }
 
+// What a slot that has passed brings.
 #[derive(Clone, Copy)]
-pub enum Reply {
-    // the slot is refused under this number, and has not passed
-    Refused(u8),
-    Passed {
-        sent: ChannelByte,
-        delivered: Delivered,
-        taken: bool,
-        outcome: Outcome,
-    },
+pub struct Passed {
+    pub sent: ChannelByte,
+    // the unit delivered
+    pub delivered: Option<u8>,
+    pub taken: bool,
+    pub outcome: Outcome,
 }
 
+// Why a slot is refused, and has not passed.
+#[derive(Clone, Copy, PartialEq, Eq, Debug)]
+pub enum SlotRefusal {
+    // an offered unit is out of range
+    UnitOutOfRange,
+    // the state is outside its ranges
+    OutsideRanges,
+}
+
+impl SlotRefusal {
+    // The number of refusal.
+    pub fn number(self) -> u8
+        ensures { result ≡ refusal_number self }
+    {
+        match self {
+            SlotRefusal::UnitOutOfRange => 12,
+            SlotRefusal::OutsideRanges => 13,
+        }
+    }
+}
+
+pub type Reply = Result<Passed, SlotRefusal>;
+
+// A refused slot gives the state back as well, so it stands beside the reply.
 #[derive(Clone, Copy)]
 pub struct SlotAnswer {
     pub state: Endpoint,
     pub reply: Reply,
 }
 
-// What a lent book starts: the verdict, and the end before slot 0; beside a refusal, the end of a book of zeros.
+// What a lent book starts: the verdict, and the end before slot 0; beside a refusal, the end of a book of zeros: a struct,
+// since theorem no_call speaks of that end.
 #[derive(Clone, Copy)]
 pub struct Start {
-    pub verdict: Verdict,
+    pub verdict: Result<(), Fault>,
     pub state: Endpoint,
 }

@@ -1,35 +1,12 @@
--- The numbers from a place of an array on are looked at one by one: those not yet looked at decide. Assumes nothing.
-use mathlib.Core.Path.{◌≡◌, sym, ◌∙◌}
-use mathlib.Core.Bool.{true, false}
-use mathlib.Core.List.{List}
-use Prim.Native.Nat.{ℕ, ◌+◌, ◌<◌, ◌≤◌}
-use native.Mathlib.Numerals.{add-one}
-use native.Mathlib.Omega.{arith}
-use lib.ListN.{length, drop, get_or, drop_of_length-le}
-use lib.Seq.{drop-cons}
-use borrow.Author.Tests.{lt-ltb, le-ltb}
+-- That each number is below a limit, by the word for lists. Assumes nothing.
+use mathlib.Core.Path.{◌≡◌, refl}
+use mathlib.Core.List.{List, [], ◌∷◌}
+use Prim.Native.Nat.{ℕ}
+use lib.Dec.{ltb}
+use Rattle.std.specs.List.{list_all}
 use Rattle.ground.specs.Digits.{all_below}
 
--- in a list of n numbers, those from one place on are below the limit if those from i on are
-pub record Looked (n limit start i : ℕ) (xs : List ℕ) : Type 0 where
-  pub long : length xs ≡ n
-  pub rest : all_below limit (drop start xs) ≡ all_below limit (drop i xs)
-
-module _ {n limit start i : ℕ} {xs : List ℕ} (inv : Looked n limit start i xs) where
-  pub next : i < n → get_or xs i 0 < limit → Looked n limit start (i + 1) xs
-  unfolding all_below
-  next h l =
-      let k : i < length xs = omega (arith, inv.long) in
-      record { long = inv.long; rest = inv.rest ∙ rw (drop-cons xs i 0 k, lt-ltb (get_or xs i 0) limit l, add-one i) }
-
-  pub found : i < n → limit ≤ get_or xs i 0 → false ≡ all_below limit (drop start xs)
-  unfolding all_below
-  found h l =
-      let k : i < length xs = omega (arith, inv.long) in
-      sym (inv.rest ∙ rw (drop-cons xs i 0 k, le-ltb (get_or xs i 0) limit l))
-
-  pub finish : n ≤ i → true ≡ all_below limit (drop start xs)
-  unfolding all_below
-  finish h =
-      let k : length xs ≤ i = omega (arith, inv.long) in
-      sym (inv.rest ∙ rw (drop_of_length-le xs k))
+pub list_all-below : (limit : ℕ) (xs : List ℕ) → list_all (λ x. ltb x limit) xs ≡ all_below limit xs
+unfolding all_below
+list_all-below limit [] = refl
+list_all-below limit (x ∷ xs) = rw (list_all-below limit xs)

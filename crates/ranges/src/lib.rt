@@ -13,7 +13,7 @@ use collecting::hearing::{awaits_hail, has_all, has_identifier, item_of};
 use collecting::kept_book::{entry_of, identifier, left_out, originates};
 use collecting::lengths::{GROUP_LENGTH, IDENTIFIER_RUN, all_parameter_bytes, run_length};
 use opened::shape::{OPENING_SD, has_pair, is_word, opening_bytes, shape_of};
-use protocol::{Awaited, Claim, Half, Inbound, Line, Outbound, Phase, Sending, Shape};
+use protocol::{Awaited, Claim, Inbound, Line, Outbound, Phase, Sending, Shape};
 
 // The places of a group, and the values: the identifier and p0 to p4.
 const PLACES: usize = 6;
@@ -22,17 +22,11 @@ const PLACES: usize = 6;
 fn all_below(limit: u8, xs: [u8; PLACES], from: u8) -> bool
     ensures { result ≡ all_below limit (drop from xs) }
 {
-    let mut i = from as usize;
-    while i < PLACES {
-        if limit <= xs[i] {
-            return false;
-        }
-        i += 1;
-    }
-    true
+    xs.iter().skip(usize::from(from)).all(|&x| x < limit)
 }
 
 // A run is shorter than the one awaited; a group in hand is not whole.
+#[tactic(auto, unfolding(protocol::specs::Ranges::awaited_in))]
 fn awaited_in(b: Book, a: Awaited) -> bool
     ensures { result ≡ awaited_in b a }
 {
@@ -48,19 +42,20 @@ fn in_hand(a: Awaited) -> u8
     ensures { result ≡ in_hand a }
 {
     match a {
-        Awaited::Run { item: _, count: _ } => 0,
-        Awaited::Group { item: _, count } => count,
-        Awaited::Nothing => 0,
+        Awaited::Group { count, .. } => count,
+        Awaited::Run { .. } | Awaited::Nothing => 0,
     }
 }
 
 // A nibble is of 4 bits; zeros stand past the nibbles in hand, and past the values voted.
+#[tactic(auto, unfolding(protocol::specs::Ranges::nibbles_in))]
 fn nibbles_in(a: Awaited, nibbles: [u8; PLACES]) -> bool
     ensures { result ≡ nibbles_in a nibbles }
 {
     all_below(16, nibbles, 0) & all_below(1, nibbles, in_hand(a))
 }
 
+#[tactic(auto, unfolding(protocol::specs::Ranges::values_in))]
 fn values_in(a: Awaited, values: [u8; PLACES]) -> bool
     ensures { result ≡ values_in a values }
 {
@@ -71,95 +66,22 @@ fn values_in(a: Awaited, values: [u8; PLACES]) -> bool
 fn behind(i: u8, a: Awaited) -> bool
     ensures { result ≡ behind i a }
 {
-    match a {
-        Awaited::Run { item: _, count: _ } => false,
-        Awaited::Group { item, count } => (item == 0) & (count < i),
-        Awaited::Nothing => false,
-    }
-}
-
-// Whether bytes of the five parameters are left to send.
-fn parameters_left(b: Book, i: u16) -> bool
-    ensures { result ≡ ltb i (all_parameter_bytes b) }
-{
-    i < all_parameter_bytes(b)
-}
-
-// What an answerer sends, by what it awaits.
-fn answering_in(b: Book, a: Awaited, s: Sending) -> bool
-    ensures { result ≡ answering_in b a s }
-{
-    match s {
-        Sending::Idle => !awaits_hail(a) & !has_all(a),
-        Sending::Hail(n) => awaits_hail(a) & (n <= IDENTIFIER_RUN),
-        Sending::Mask(i) => behind(i, a) & (i < GROUP_LENGTH),
-        Sending::Parameters(i) => has_all(a) & (1 <= i) & parameters_left(b, i),
-        Sending::Done => false,
-    }
-}
-
-// What an originator sends, by what it awaits.
-fn originating_in(b: Book, a: Awaited, s: Sending) -> bool
-    ensures { result ≡ originating_in b a s }
-{
-    match s {
-        Sending::Idle => awaits_hail(a),
-        Sending::Hail(n) => !awaits_hail(a) & (1 <= n) & (n <= IDENTIFIER_RUN),
-        Sending::Mask(i) => has_identifier(a) & (1 <= i) & (i < GROUP_LENGTH),
-        Sending::Parameters(i) => has_identifier(a) & parameters_left(b, i),
-        Sending::Done => has_identifier(a) & !has_all(a),
-    }
-}
-
-fn sending_in(b: Book, a: Awaited, s: Sending) -> bool
-    ensures { result ≡ sending_in b a s }
-{
-    if originates(b) {
-        return originating_in(b, a, s);
-    }
-    answering_in(b, a, s)
+    matches!(a, Awaited::Group { item: 0, count } if count < i)
 }
 
 // Whether a mask has the bit of a version.
 fn has_version(mask: u8, version: u8) -> bool
     ensures { result ≡ (leb 1 version && leb version 8 && eqb (bit (version - 1) mask) 1) }
 {
-    if version < 1 {
-        return false;
-    }
-    if 8 < version {
-        return false;
-    }
-    (mask >> (version - 1)) % 2 == 1
+    (1..=8).contains(&version) && (mask >> (version - 1)) % 2 == 1
 }
 
 // A version that the identifier can have settled.
+#[tactic(auto, unfolding(protocol::specs::Ranges::is_version))]
 fn is_version(b: Book, version: u8) -> bool
     ensures { result ≡ is_version b version }
 {
     has_version(identifier(b), version)
-}
-
-// An originator that shares no version has yet to send its mask of 00.
-fn may_lack(b: Book, s: Sending) -> bool
-    ensures { result ≡ may_lack b s }
-{
-    match s {
-        Sending::Idle => false,
-        Sending::Hail(_) => originates(b),
-        Sending::Mask(_) => originates(b),
-        Sending::Parameters(_) => false,
-        Sending::Done => false,
-    }
-}
-
-fn version_in(b: Book, a: Awaited, s: Sending, version: u8) -> bool
-    ensures { result ≡ version_in b a s version }
-{
-    if has_identifier(a) {
-        return is_version(b, version) | (may_lack(b, s) & (version == 0));
-    }
-    version == 0
 }
 
 // Whether a high nibble is of a word of w bits, of which the low nibble takes four.
@@ -174,88 +96,158 @@ fn high_fits(w: u8, high: u8) -> bool
 }
 
 // The high nibble due is of a word of w bits, after the first bytes; a received low nibble is any.
-fn due_in(s: Shape, opening: u8, due: Half) -> bool
+fn due_in(s: Shape, opening: u8, due: Option<u8>) -> bool
     ensures { result ≡ due_in s opening due }
 {
     match s {
         Shape::Word(w) => match due {
-            Half::Empty => true,
-            Half::Holds(high) => (OPENING_SD <= opening) & high_fits(w, high),
+            None => true,
+            Some(high) => (OPENING_SD <= opening) & high_fits(w, high),
         },
-        Shape::Unit(_) => match due {
-            Half::Empty => true,
-            Half::Holds(_) => false,
-        },
+        Shape::Unit(_) => due.is_none(),
     }
 }
 
-fn half_in(s: Shape, half: Half) -> bool
+fn half_in(s: Shape, half: Option<u8>) -> bool
     ensures { result ≡ half_in s half }
 {
     match half {
-        Half::Empty => true,
-        Half::Holds(low) => is_word(s) & (low < 16),
+        None => true,
+        Some(low) => is_word(s) & (low < 16),
     }
 }
 
-fn none_due(due: Half) -> bool
+fn none_due(due: Option<u8>) -> bool
     ensures { result ≡ none_due due }
 {
-    match due {
-        Half::Empty => true,
-        Half::Holds(_) => false,
-    }
+    due.is_none()
 }
 
 // A second Sd is due, or a unit owed the line, in forms 0 and 6 alone, after the 16 Sd, and while no DH is due.
-fn claim_in(s: Shape, opening: u8, due: Half, claim: Claim) -> bool
+fn claim_in(s: Shape, opening: u8, due: Option<u8>, claim: Claim) -> bool
     ensures { result ≡ claim_in s opening due claim }
 {
     let may = !has_pair(s) & (OPENING_SD <= opening) & none_due(due);
     match claim {
         Claim::Free => true,
-        Claim::Second(_) => may,
-        Claim::Owed => may,
+        Claim::Second(_) | Claim::Owed => may,
     }
 }
 
 // BK of the last two Sd sent is off, but in form 0; their leads are any.
+#[tactic(auto, unfolding(protocol::specs::Ranges::outbound_in))]
 fn outbound_in(s: Shape, o: Outbound) -> bool
     ensures { result ≡ outbound_in s o }
 {
-    let due = o.due;
-    let claim = o.claim;
     (o.opening <= opening_bytes(s))
-        & due_in(s, o.opening, due)
-        & claim_in(s, o.opening, due, claim)
+        & due_in(s, o.opening, o.due)
+        & claim_in(s, o.opening, o.due, o.claim)
         & (is_word(s) | !(o.last.bk | o.before.bk))
 }
 
+#[tactic(auto, unfolding(protocol::specs::Ranges::inbound_in))]
 fn inbound_in(s: Shape, i: Inbound) -> bool
     ensures { result ≡ inbound_in s i }
 {
-    let half = i.half;
-    half_in(s, half) & (i.pair <= 2) & (has_pair(s) | (i.pair == 0))
+    half_in(s, i.half) & (i.pair <= 2) & (has_pair(s) | (i.pair == 0))
 }
 
 fn is_last(slot: u16, limit: u16) -> bool
     ensures { result ≡ eqb (slot + 1) limit }
 {
-    slot as u32 + 1 == limit as u32
+    u32::from(slot) + 1 == u32::from(limit)
 }
 
 // An end that refuses 23 does so in the last slot.
+#[tactic(auto, unfolding(protocol::specs::Ranges::refused_in))]
 fn refused_in(b: Book, number: u8, slot: u16) -> bool
     ensures { result ≡ refused_in b number slot }
 {
-    (slot < b.limit) & ((number == 21) | (number == 22) | ((number == 23) & is_last(slot, b.limit)))
+    (slot < b.limit) & (matches!(number, 21 | 22) | ((number == 23) & is_last(slot, b.limit)))
 }
 
 // An end in the exchange, but for what it has collected.
-fn exchange_in(b: Book, slot: u16, version: u8, a: Awaited, s: Sending) -> bool
-    ensures { result ≡ exchange_in b slot version a s }
-{
-    (slot < b.limit) & awaited_in(b, a) & sending_in(b, a, s) & version_in(b, a, s, version)
+#[derive(Clone, Copy)]
+struct Exchanging {
+    book: Book,
+    slot: u16,
+    version: u8,
+    awaited: Awaited,
+    sending: Sending,
+}
+
+impl Exchanging {
+    // Whether bytes of the five parameters are left to send.
+    fn parameters_left(self, i: u16) -> bool
+        ensures { result ≡ ltb i (all_parameter_bytes self.book) }
+    {
+        i < all_parameter_bytes(self.book)
+    }
+
+    // What an answerer sends, by what it awaits.
+    #[tactic(auto, unfolding(protocol::specs::Ranges::answering_in, protocol::specs::Lengths::identifier_run))]
+    fn answering_in(self) -> bool
+        ensures { result ≡ answering_in self.book self.awaited self.sending }
+    {
+        let a = self.awaited;
+        match self.sending {
+            Sending::Idle => !awaits_hail(a) & !has_all(a),
+            Sending::Hail(n) => awaits_hail(a) & (n <= IDENTIFIER_RUN),
+            Sending::Mask(i) => behind(i, a) & (i < GROUP_LENGTH),
+            Sending::Parameters(i) => has_all(a) & (1 <= i) & self.parameters_left(i),
+            Sending::Done => false,
+        }
+    }
+
+    // What an originator sends, by what it awaits.
+    #[tactic(auto, unfolding(protocol::specs::Ranges::originating_in, protocol::specs::Lengths::identifier_run))]
+    fn originating_in(self) -> bool
+        ensures { result ≡ originating_in self.book self.awaited self.sending }
+    {
+        let a = self.awaited;
+        match self.sending {
+            Sending::Idle => awaits_hail(a),
+            Sending::Hail(n) => !awaits_hail(a) & (1 <= n) & (n <= IDENTIFIER_RUN),
+            Sending::Mask(i) => has_identifier(a) & (1 <= i) & (i < GROUP_LENGTH),
+            Sending::Parameters(i) => has_identifier(a) & self.parameters_left(i),
+            Sending::Done => has_identifier(a) & !has_all(a),
+        }
+    }
+
+    fn sending_in(self) -> bool
+        ensures { result ≡ sending_in self.book self.awaited self.sending }
+    {
+        if originates(self.book) {
+            return self.originating_in();
+        }
+        self.answering_in()
+    }
+
+    // An originator that shares no version has yet to send its mask of 00.
+    fn may_lack(self) -> bool
+        ensures { result ≡ may_lack self.book self.sending }
+    {
+        matches!(self.sending, Sending::Hail(_) | Sending::Mask(_)) & originates(self.book)
+    }
+
+    #[tactic(auto, unfolding(protocol::specs::Ranges::version_in))]
+    fn version_in(self) -> bool
+        ensures { result ≡ version_in self.book self.awaited self.sending self.version }
+    {
+        if has_identifier(self.awaited) {
+            return is_version(self.book, self.version) | (self.may_lack() & (self.version == 0));
+        }
+        self.version == 0
+    }
+
+    fn is_in(self) -> bool
+        ensures { result ≡ exchange_in self.book self.slot self.version self.awaited self.sending }
+    {
+        (self.slot < self.book.limit)
+            & awaited_in(self.book, self.awaited)
+            & self.sending_in()
+            & self.version_in()
+    }
 }
 
 // An open end: no form 8 entry on version 1.
@@ -272,6 +264,7 @@ fn open_in(b: Book, slot: u16, version: u8, entry: u8, line: Line) -> bool
         & inbound_in(shape, line.inbound)
 }
 
+#[tactic(auto, unfolding(protocol::specs::Ranges::phase_in))]
 pub fn phase_in(b: Book, nibbles: [u8; PLACES], values: [u8; PLACES], p: Phase) -> bool
     ensures { result ≡ phase_in b nibbles values p }
 {
@@ -282,9 +275,14 @@ pub fn phase_in(b: Book, nibbles: [u8; PLACES], values: [u8; PLACES], p: Phase) 
             awaited,
             sending,
         } => {
-            exchange_in(b, slot, version, awaited, sending)
-                & nibbles_in(awaited, nibbles)
-                & values_in(awaited, values)
+            let exchanging = Exchanging {
+                book: b,
+                slot,
+                version,
+                awaited,
+                sending,
+            };
+            exchanging.is_in() & nibbles_in(awaited, nibbles) & values_in(awaited, values)
         }
         Phase::Open {
             slot,

@@ -1,6 +1,3 @@
-pub mod PairForms
-pub mod Agreeing
-pub mod OtherKinds
-pub mod Streams
 pub mod InNumbers
 pub mod OneReply
+pub mod OtherKinds

@@ -1,4 +1,4 @@
--- A byte of a kind that a branch does not name: what is known of it is that it is none of those named before. Assumes nothing.
+-- A byte of a kind that is not named. Assumes nothing.
 use mathlib.Core.Path.{◌≡◌, refl}
 use mathlib.Core.Bool.{Bool}
 use Prim.Native.Nat.{ℕ}

@@ -12,13 +12,13 @@ use channel::unit;
 use channel::unit::Form;
 use opened::line::inbound_of;
 use opened::shape::pair_form;
-use protocol::{Delivered, Half, Inbound, Shape, Signals};
+use protocol::{Inbound, Shape, Signals};
 
 // What a received byte makes of the receiving half, and what it delivers.
 #[derive(Clone, Copy)]
 pub struct ReadingMade {
     pub inbound: Inbound,
-    pub delivered: Delivered,
+    pub delivered: Option<u8>,
 }
 
 // A lead, or BK, takes a new value when the last two Sd received agree on it.
@@ -28,6 +28,7 @@ fn agreed(last: bool, now: bool, standing: bool) -> bool
     if last == now { now } else { standing }
 }
 
+#[tactic(auto, unfolding(protocol::specs::Opened::agreed_signals))]
 fn agreed_signals(last: Signals, now: Signals, standing: Signals) -> Signals
     ensures { result ≡ agreed_signals last now standing }
 {
@@ -42,12 +43,10 @@ fn agreed_signals(last: Signals, now: Signals, standing: Signals) -> Signals
 }
 
 // A byte that is no Sd leaves the signals as they stand.
-fn reads(i: Inbound, half: Half, pair: u8, delivered: Delivered) -> ReadingMade
+fn reads(i: Inbound, half: Option<u8>, pair: u8, delivered: Option<u8>) -> ReadingMade
     ensures { result ≡ reading_made (reads i half pair delivered) }
 {
-    let last = i.last;
-    let standing = i.standing;
-    let inbound = inbound_of(half, pair, last, standing);
+    let inbound = Inbound { half, pair, ..i };
     ReadingMade { inbound, delivered }
 }
 
@@ -57,18 +56,17 @@ fn reads_sd(i: Inbound, leads: Leads, bk: bool) -> ReadingMade
 {
     let now = Signals { leads, bk };
     let agreed = agreed_signals(i.last, now, i.standing);
-    let inbound = inbound_of(Half::Empty, 0, now, agreed);
     ReadingMade {
-        inbound,
-        delivered: Delivered::Nothing,
+        inbound: inbound_of(None, 0, now, agreed),
+        delivered: None,
     }
 }
 
 // A byte that delivers nothing, with so much of the pair come.
 fn seeks(i: Inbound, pair: u8) -> ReadingMade
-    ensures { result ≡ reading_made (reads i Half.Empty pair Delivered.Nothing) }
+    ensures { result ≡ reading_made (reads i None pair None) }
 {
-    reads(i, Half::Empty, pair, Delivered::Nothing)
+    reads(i, None, pair, None)
 }
 
 // A byte that drops the half, and the first byte of a pair.
@@ -80,55 +78,28 @@ fn quiet(i: Inbound) -> ReadingMade
 
 // A byte that carries a unit.
 fn delivers(i: Inbound, pair: u8, u: u8) -> ReadingMade
-    ensures { result ≡ reading_made (reads i Half.Empty pair (Delivered.Unit u)) }
+    ensures { result ≡ reading_made (reads i None pair (Some u)) }
 {
-    reads(i, Half::Empty, pair, Delivered::Unit(u))
+    reads(i, None, pair, Some(u))
 }
 
 // A DL then at once a DH delivers a word.
-fn word_with(w: u8, half: Half, high: u8) -> Delivered
+fn word_with(w: u8, half: Option<u8>, high: u8) -> Option<u8>
     ensures { result ≡ word_with w half high }
 {
-    match half {
-        Half::Empty => Delivered::Nothing,
-        Half::Holds(low) => Delivered::Unit(unit::word_of(w, low, high)),
-    }
+    half.map(|low| unit::word_of(w, low, high))
 }
 
-// Form 0: while BK stands on, data is ignored.
-fn ignores(i: Inbound) -> bool
-    ensures { result ≡ i.standing.bk }
-{
-    i.standing.bk
-}
-
-fn reads_low(i: Inbound, x: u8) -> ReadingMade
-    ensures { result ≡ reading_made (cond i.standing.bk (quiet i) (reads i (Half.Holds x) 0 Delivered.Nothing)) }
-{
-    if ignores(i) {
-        return quiet(i);
-    }
-    reads(i, Half::Holds(x), 0, Delivered::Nothing)
-}
-
-fn reads_high(w: u8, i: Inbound, x: u8) -> ReadingMade
-    ensures { result ≡ reading_made (reads_word w i (Kind.Dh x)) }
-{
-    let half = i.half;
-    if ignores(i) {
-        return quiet(i);
-    }
-    reads(i, Half::Empty, 0, word_with(w, half, x))
-}
-
-// Anything else drops the half.
+// Form 0: while BK stands on, data is ignored; anything else drops the half.
+#[tactic(auto, unfolding(protocol::specs::Opened::reads_word))]
 fn reads_word(w: u8, i: Inbound, k: Kind) -> ReadingMade
     ensures { result ≡ reading_made (reads_word w i k) }
 {
     match k {
-        Kind::Dl(x) => reads_low(i, x),
-        Kind::Dh(x) => reads_high(w, i, x),
         Kind::Sd(leads, bk) => reads_sd(i, leads, bk),
+        _ if i.standing.bk => quiet(i),
+        Kind::Dl(x) => reads(i, Some(x), 0, None),
+        Kind::Dh(x) => reads(i, None, 0, word_with(w, i.half, x)),
         _ => quiet(i),
     }
 }
@@ -143,26 +114,28 @@ fn reads_idle(i: Inbound, k: Kind) -> ReadingMade
     }
 }
 
+#[tactic(auto, unfolding(protocol::specs::Opened::reads_six))]
 fn reads_six(i: Inbound, heard: ChannelByte) -> ReadingMade
     ensures { result ≡ reading_made (reads_six i heard.0) }
 {
     if unit::is_data(Form::Six, heard) {
-        return delivers(i, 0, unit::unit_in(Form::Six, heard));
+        delivers(i, 0, unit::unit_in(Form::Six, heard))
+    } else {
+        reads_idle(i, heard.kind())
     }
-    reads_idle(i, heard.kind())
 }
 
 // How much of the pair has come with its first byte, and with its second: both carry no bit.
 fn pair_begun(x: u8) -> u8
     ensures { result ≡ cond (eqb x 0) 1 0 }
 {
-    if x == 0 { 1 } else { 0 }
+    u8::from(x == 0)
 }
 
 fn pair_ended(x: u8, pair: u8) -> u8
     ensures { result ≡ cond (eqb x 0 && eqb pair 1) 2 0 }
 {
-    if (x == 0) & (pair == 1) { 2 } else { 0 }
+    if x == 0 && pair == 1 { 2 } else { 0 }
 }
 
 // Forms 7 and 8 before the pair: a DL and at once a DH, both with no bit on, are the pair.
@@ -178,25 +151,28 @@ fn reads_pair(i: Inbound, k: Kind) -> ReadingMade
 }
 
 // Forms 7 and 8 deliver every byte after the first received pair.
+#[tactic(auto, unfolding(protocol::specs::Opened::reads_stream))]
 fn reads_stream(f: Form, i: Inbound, heard: ChannelByte) -> ReadingMade
     ensures { result ≡ reading_made (reads_stream f i heard.0) }
 {
-    let seeking = i.pair != 2;
-    if seeking {
-        return reads_pair(i, heard.kind());
+    if i.pair == 2 {
+        delivers(i, 2, unit::unit_in(f, heard))
+    } else {
+        reads_pair(i, heard.kind())
     }
-    delivers(i, 2, unit::unit_in(f, heard))
 }
 
 fn reads_form(f: Form, i: Inbound, heard: ChannelByte) -> ReadingMade
     ensures { result ≡ reading_made (reads_form f i heard.0) }
 {
     if pair_form(f) {
-        return reads_stream(f, i, heard);
+        reads_stream(f, i, heard)
+    } else {
+        reads_six(i, heard)
     }
-    reads_six(i, heard)
 }
 
+#[tactic(auto, using(crate::proofs::InNumbers::replies), unfolding(protocol::specs::Opened::reading))]
 pub fn reading(s: Shape, i: Inbound, heard: ChannelByte) -> ReadingMade
     ensures value { result ≡ reading_made (reading s i heard.0) }
     ensures says { says_delivered result.delivered ≡ delivers_of s i heard.0 }

@@ -25,34 +25,11 @@ pub(crate) const NO_RUN: [u8; 17] = [
 
 pub(crate) const RUN: [u8; 16] = [0x57; 16];
 
-fn high(x: u16) -> u8 {
-    (x / 256) as u8
-}
-
-fn low(x: u16) -> u8 {
-    (x % 256) as u8
-}
-
 // A book of one entry.
 pub(crate) fn one(limit: u16) -> [u8; 17] {
+    let [high, low] = limit.to_be_bytes();
     [
-        b'T',
-        b'L',
-        b'B',
-        0,
-        1,
-        1,
-        3,
-        high(limit),
-        low(limit),
-        1,
-        1,
-        2,
-        3,
-        4,
-        5,
-        7,
-        0,
+        b'T', b'L', b'B', 0, 1, 1, 3, high, low, 1, 1, 2, 3, 4, 5, 7, 0,
     ]
 }
 
@@ -65,42 +42,10 @@ pub(crate) fn pair(
     limit: u16,
     delay: u8,
 ) -> [u8; 35] {
+    let [high, low] = limit.to_be_bytes();
     [
-        b'T',
-        b'L',
-        b'B',
-        0,
-        1,
-        0,
-        mask_o,
-        high(limit),
-        low(limit),
-        1,
-        1,
-        2,
-        3,
-        4,
-        5,
-        form_o,
-        0,
-        b'T',
-        b'L',
-        b'B',
-        0,
-        1,
-        1,
-        mask_a,
-        high(limit),
-        low(limit),
-        1,
-        1,
-        2,
-        3,
-        4,
-        5,
-        form_a,
-        0,
-        delay,
+        b'T', b'L', b'B', 0, 1, 0, mask_o, high, low, 1, 1, 2, 3, 4, 5, form_o, 0, b'T', b'L',
+        b'B', 0, 1, 1, mask_a, high, low, 1, 1, 2, 3, 4, 5, form_a, 0, delay,
     ]
 }
 

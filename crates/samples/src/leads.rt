@@ -5,8 +5,8 @@ use endpoint::slot::slot;
 use endpoint::start::start;
 use opened::drive::drive_with;
 use opened::line::fresh_line;
-use protocol::{Endpoint, Offer, Phase, SlotAnswer};
-use text::{Text, empty, hex, word};
+use protocol::{Endpoint, Phase, SlotAnswer};
+use text::Text;
 
 // Leads s0 to s3 in bits 0 to 3, slot by slot, the first 16 with the Sd of the opening: DTR, which is s3, drops.
 pub(crate) const DROPS: [u8; 22] = [
@@ -22,23 +22,15 @@ const OPENING: usize = 16;
 
 // An end that has just opened on the second entry of a book.
 fn opened(form: u8, w: u8) -> Endpoint {
-    let begun = start(&books::two(form, w));
-    let e = begun.state;
-    let book = e.book;
-    let nibbles = e.nibbles;
-    let values = e.values;
-    let line = fresh_line();
     let phase = Phase::Open {
         slot: 260,
         version: 2,
         entry: 1,
-        line,
+        line: fresh_line(),
     };
     Endpoint {
-        book,
-        nibbles,
-        values,
         phase,
+        ..start(&books::two(form, w)).state
     }
 }
 
@@ -53,7 +45,7 @@ fn leads(bits: u8) -> Leads {
 
 // A slot with these leads: Sdidle is heard, and the unit 21 hex offered.
 fn offered(e: Endpoint, bits: u8) -> SlotAnswer {
-    let drive = drive_with(leads(bits), false, Offer::Unit(0x21));
+    let drive = drive_with(leads(bits), false, Some(0x21));
     slot(e, ChannelByte::SDIDLE, drive)
 }
 
@@ -62,24 +54,21 @@ fn told(t: Text, i: usize, byte: u8) -> Text {
     if i < OPENING {
         return t;
     }
-    hex(word(t, b" "), byte)
+    t.word(b" ").hex(byte)
 }
 
 fn heading() -> Text {
-    word(empty(), b"sends")
+    Text::new().word(b"sends")
 }
 
 // What goes after the opening.
 pub(crate) fn sends(form: u8, w: u8, given: &[u8]) -> Text {
     let mut e = opened(form, w);
     let mut t = heading();
-    let mut i = 0;
-    while i < given.len() {
-        let answer = offered(e, given[i]);
-        let reply = answer.reply;
-        t = told(t, i, sent(reply));
+    for (i, &bits) in given.iter().enumerate() {
+        let answer = offered(e, bits);
+        t = told(t, i, sent(answer.reply));
         e = answer.state;
-        i += 1;
     }
-    word(t, b"\n")
+    t.word(b"\n")
 }

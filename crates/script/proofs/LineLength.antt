@@ -1,17 +1,15 @@
 -- No line is longer than a text has room for. Assumes nothing.
+use Rattle.std.specs.Prelude.{Option, Some, None, Ok, Err}
 use mathlib.Core.Path.{◌≡◌, refl}
 use mathlib.Core.Bool.{Bool, true, false}
 use Prim.Native.Nat.{ℕ, ◌+◌, ◌≤◌}
 use native.Mathlib.Omega.{arith}
 use lib.ListN.{length, length-append}
 use Rattle.channel.specs.declared.byte.ChannelByte.{ChannelByte}
+use Rattle.protocol.specs.Slot.{Reply, passed_with, refusal_number}
 use Rattle.protocol.specs.declared.Signals.{Signals}
-use Rattle.protocol.specs.declared.Delivered.{Delivered}
-use Rattle.protocol.specs.declared.Delivered.TheVariants.{Nothing, Unit}
 use Rattle.protocol.specs.declared.Outcome.{Outcome}
 use Rattle.protocol.specs.declared.Outcome.TheVariants as outcome
-use Rattle.protocol.specs.declared.Reply.{Reply}
-use Rattle.protocol.specs.declared.Reply.TheVariants as reply
 use Rattle.text.specs.Text.{room}
 use Rattle.text.specs.Numerals.{decimal_of, hex_of}
 use Rattle.text.proofs.Lengths.{decimal_most, parameters_length}
@@ -26,21 +24,21 @@ unfolding signal_digits
 signals_length g =
     simp (length-append, flag_length)
 
-unit_most : (d : Delivered) → length (unit_field d) ≤ 5
-unit_most Nothing = omega arith
-unit_most (Unit u) = decimal_most u
+unit_most : (d : Option ℕ) → length (unit_field d) ≤ 5
+unit_most None = omega arith
+unit_most (Some u) = decimal_most u
 
 -- what the reply of a slot adds to its line
-pub passed_most : (sent : ChannelByte) (delivered : Delivered) (taken : Bool) (stands : Outcome)
-    → length (reply_fields (reply.Passed sent delivered taken stands)) ≤ 10
+pub passed_most : (sent : ChannelByte) (delivered : Option ℕ) (taken : Bool) (stands : Outcome)
+    → length (reply_fields (passed_with sent delivered taken stands)) ≤ 10
 unfolding reply_fields sent_field delivered_field taken_field hex_of
 passed_most sent delivered true stands = simp length-append (omega (arith, unit_most delivered))
 passed_most sent delivered false stands = simp length-append (omega (arith, unit_most delivered))
 
 reply_most : (r : Reply) → length (reply_fields r) + length (refusal_note r) ≤ 15
 unfolding reply_fields sent_field delivered_field taken_field refusal_note
-reply_most (reply.Refused number) = simp length-append (omega (arith, decimal_most number))
-reply_most (reply.Passed sent delivered taken stands) = omega (arith, passed_most sent delivered taken stands)
+reply_most (Err refusal) = simp length-append (omega (arith, decimal_most (refusal_number refusal)))
+reply_most (Ok p) = omega (arith, passed_most p.sent p.delivered p.taken p.outcome)
 
 -- and what the outcome adds: most where the end is open
 pub outcome_most : (o : Outcome) → length (outcome_fields o) ≤ 33

@@ -1,34 +1,36 @@
 -- A buffer that has room for what any script says. Assumes nothing.
-use mathlib.Core.Path.{◌≡◌, refl}
+use Rattle.std.specs.Prelude.{Ok, Err}
+use mathlib.Core.Path.{◌≡◌, refl, ap}
 use mathlib.Core.Bool.{Bool, true, false, cond, ◌&&◌}
 use mathlib.Core.List.{List, [], ◌∷◌}
 use Prim.Native.Nat.{ℕ, ◌+◌, ◌-◌, ◌*◌, ◌≤◌, ◌<◌, min}
 use native.Mathlib.Omega.{arith}
 use lib.Dec.{eqb, leb}
 use lib.ListN.{length, take, length-append, length-drop}
-use borrow.Author.Tests.{leb-true, eqb-true}
+use borrow.Author.Tests.{leb-true}
 use Rattle.ground.specs.Digits.{bit}
 use Rattle.ground.proofs.Test.{both_left, both_right}
 use Rattle.book.specs.declared.Book.{Book}
 use Rattle.book.specs.Kept.{book_ok}
-use Rattle.book.specs.Reading.{number_of, read_book}
+use Rattle.book.specs.Refusals.{Verdict, number_of}
+use Rattle.book.specs.Reading.{read_book}
 use Rattle.book.proofs.RoundTrip.{number_passes}
 use Rattle.channel.specs.Bytes.{byte}
 use Rattle.protocol.specs.declared.Phase.{Phase}
 use Rattle.protocol.specs.declared.Phase.TheVariants.{Exchanging, Open, Refused}
 use Rattle.protocol.specs.declared.Endpoint.{Endpoint}
 use Rattle.protocol.specs.declared.Drive.{Drive}
-use Rattle.protocol.specs.declared.Reply.TheVariants as reply
+use Rattle.protocol.specs.declared.SlotRefusal.TheVariants.{UnitOutOfRange}
 use Rattle.protocol.specs.Sent.{byte_sent}
 use Rattle.protocol.specs.Exchange.{identifier}
 use Rattle.protocol.specs.Ranges.{is_version, phase_in, well_formed}
-use Rattle.protocol.specs.Slot.{Step, step_of, offer_allowed, outcome_at, outcome_of, passes, refuses, slot_of, started, start_of}
+use Rattle.protocol.specs.Slot.{Step, step_of, offer_allowed, outcome_at, outcome_of, passes, refuses, slot_of, started, start_of, passed_with}
 use Rattle.protocol.proofs.Kept.StateKept.{open_parts, started_kept, slot_kept}
 use Rattle.text.specs.Numerals.{decimal_of}
 use Rattle.text.specs.Output.{over}
 use Rattle.script.specs.Input.{book_in, slots_in, script_fault, drive_of}
 use Rattle.script.specs.Line.{sent_field, delivered_field, taken_field, refusal_note, reply_fields, signals_field, stands_field, detail_field, outcome_fields}
-use Rattle.script.specs.Output.{line_by, lines_from, book_refused, says_started, script_says}
+use Rattle.script.specs.Output.{line_by, lines_from, says_from, says_started, script_says}
 use Rattle.text.proofs.Lengths.{decimal_most, one_digit, parameters_length}
 use Rattle.text.proofs.Filling.{written_whole}
 use Rattle.script.proofs.LineLength.{signals_length, passed_most, outcome_most, line_length}
@@ -55,13 +57,13 @@ unfolding refusal_note
 passed_line place s =
     let o = outcome_of s.state in
     let sent = byte (byte_sent s.sent) in
-    rw (line_length place o (reply.Passed sent s.delivered s.taken o))
+    rw (line_length place o (passed_with sent s.delivered s.taken o))
     (omega (arith, decimal_most place, passed_most sent s.delivered s.taken o, outcome_most o))
 
-refused_line_lem : (place : ℕ) (e : Endpoint) → well_formed e ≡ true → length (line_by place (refuses e 12)) ≤ 51
+refused_line_lem : (place : ℕ) (e : Endpoint) → well_formed e ≡ true → length (line_by place (refuses e UnitOutOfRange)) ≤ 51
 unfolding well_formed reply_fields sent_field delivered_field taken_field refusal_note decimal_of
 refused_line_lem place e ok =
-    rw (line_length place (outcome_of e) (reply.Refused 12))
+    rw (line_length place (outcome_of e) (Err UnitOutOfRange))
     (omega (arith, decimal_most place, outcome_short e e.phase (both_right (book_ok e.book) (phase_in e.book e.nibbles e.values e.phase) ok)))
 
 -- no line of a slot is longer than 51 characters
@@ -70,7 +72,7 @@ pub slot_line : (place : ℕ) (e : Endpoint) (heard : ℕ) (g : Drive) → well_
 unfolding slot_of
 slot_line place e heard g ok = rw ok (by (offer_allowed e g e.phase))
   where
-    by : (allowed : Bool) → length (line_by place (cond allowed (passes (step_of e heard g)) (refuses e 12))) ≤ 51
+    by : (allowed : Bool) → length (line_by place (cond allowed (passes (step_of e heard g)) (refuses e UnitOutOfRange))) ≤ 51
     by true = passed_line place (step_of e heard g)
     by false = refused_line_lem place e ok
 
@@ -88,17 +90,14 @@ lines_room place e (heard ∷ flags ∷ unit ∷ rest) ok =
 
 started_room : (slots bytes : List ℕ) → length slots ≤ 65535 → length (says_started slots (start_of (read_book bytes))) ≤ 17 * 65536
 unfolding start_of
-started_room slots bytes h = by (eqb number 0) refl
+started_room slots bytes h = by (read_book bytes).verdict refl
   where
     b : Book
     b = (read_book bytes).book
 
-    number : ℕ
-    number = number_of (read_book bytes).verdict
-
-    by : (fine : Bool) → eqb number 0 ≡ fine → length (cond fine (lines_from 0 (started b) slots) (book_refused number)) ≤ 17 * 65536
-    by true e = omega (arith, lines_room 0 (started b) slots (started_kept b (number_passes bytes (eqb-true number 0 e))))
-    by false e = omega (arith, refusal_fits number)
+    by : (v : Verdict) → (read_book bytes).verdict ≡ v → length (says_from slots (started b) v) ≤ 17 * 65536
+    by (Ok _) e = omega (arith, lines_room 0 (started b) slots (started_kept b (number_passes bytes (ap number_of e))))
+    by (Err f) e = omega (arith, refusal_fits f.refusal)
 
 -- 1,114,112 bytes are room for what any script says
 pub any_script_fits : (s : List ℕ) → length (script_says s) ≤ 17 * 65536
@@ -108,7 +107,7 @@ any_script_fits s = by (script_fault s) refl
     by : (f : Bool) → script_fault s ≡ f → length (script_says s) ≤ 17 * 65536
     by true e = rw e (omega arith)
     by false e =
-        let slots : length (slots_in s) ≤ 65535 = simp length-drop (omega (arith, (fine s refl e).most)) in
+        let slots : length (slots_in s) ≤ 65535 = simp length-drop (omega (arith, (fine s e).most)) in
         rw e (started_room (slots_in s) (book_in s) slots)
 
 -- so that the part of such a buffer that was written is all that the script says

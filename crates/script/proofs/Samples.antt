@@ -1,4 +1,5 @@
 -- Lines and scripts at figures, by computation. Assumes nothing.
+use Rattle.std.specs.Prelude.{Some, None, Err}
 use mathlib.Core.Path.{◌≡◌, refl}
 use mathlib.Core.Bool.{true, false}
 use mathlib.Core.List.{List, [], ◌∷◌, ◌++◌}
@@ -6,12 +7,11 @@ use Prim.Native.Nat.{ℕ}
 use Rattle.book.specs.Reading.{read_book}
 use Rattle.channel.specs.Bytes.{byte}
 use Rattle.protocol.specs.declared.Signals.{Signals}
-use Rattle.protocol.specs.declared.Delivered.TheVariants as delivered
 use Rattle.protocol.specs.declared.Outcome.{Outcome}
 use Rattle.protocol.specs.declared.Outcome.TheVariants.{Exchanging, Open, Refused}
-use Rattle.protocol.specs.declared.Reply.TheVariants as reply
+use Rattle.protocol.specs.declared.SlotRefusal.TheVariants.{UnitOutOfRange}
 use Rattle.protocol.proofs.Computing.{computing}
-use Rattle.protocol.specs.Slot.{start_of}
+use Rattle.protocol.specs.Slot.{start_of, passed_with}
 use Rattle.text.specs.Ascii.{ascii}
 use Rattle.text.specs.Numerals.{decimal_of, hex_of, parameters_of}
 use Rattle.script.specs.Input.{slots_fault, script_fault, drive_of}
@@ -34,10 +34,10 @@ script mask slots = 0 ∷ 17 ∷ (book mask ++ slots)
 
 pub record ScriptFigures : Type 0 where
   -- lines: in the exchange; a unit delivered and one taken; a slot refused; an end refused
-  pub exchange : line_of 0 Exchanging (reply.Passed (byte 0x57) delivered.Nothing false Exchanging) ≡ ascii "0 57 - - ----- exchange -\n"
-  pub open_end_lem : line_of 500 opened (reply.Passed (byte 0x0D) (delivered.Unit 165) true opened) ≡ ascii "500 0D 165 t 01001 open 2/01A2030405/424\n"
-  pub refused_slot : line_of 501 opened (reply.Refused 12) ≡ ascii "501 -- - - 01001 open 2/01A2030405/424 by 12\n"
-  pub refused_end : line_of 44 (Refused 21 43) (reply.Passed (byte 0x43) delivered.Nothing false (Refused 21 43)) ≡ ascii "44 43 - - ----- refused 21/43\n"
+  pub exchange : line_of 0 Exchanging (passed_with (byte 0x57) None false Exchanging) ≡ ascii "0 57 - - ----- exchange -\n"
+  pub open_end_lem : line_of 500 opened (passed_with (byte 0x0D) (Some 165) true opened) ≡ ascii "500 0D 165 t 01001 open 2/01A2030405/424\n"
+  pub refused_slot : line_of 501 opened (Err UnitOutOfRange) ≡ ascii "501 -- - - 01001 open 2/01A2030405/424 by 12\n"
+  pub refused_end : line_of 44 (Refused 21 43) (passed_with (byte 0x43) None false (Refused 21 43)) ≡ ascii "44 43 - - ----- refused 21/43\n"
   -- scripts: no slot; two slots; a refused book; bit 7 on and a slot that is cut, each tested before the book
   pub no_slot : script_says (script 3 []) ≡ []
   pub two_slots : script_says (script 3 (0x57 ∷ 0x04 ∷ 0 ∷ 0x57 ∷ 0x24 ∷ 9 ∷ [])) ≡ ascii "0 57 - - ----- exchange -\n1 57 - - ----- exchange -\n"

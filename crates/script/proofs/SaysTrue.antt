@@ -5,7 +5,6 @@ use mathlib.Core.List.{List, [], ◌∷◌, ◌++◌, append_assoc, append-nil}
 use Prim.Native.Nat.{ℕ, zero, suc, ◌+◌, ◌*◌, ◌/◌, ◌≤◌}
 use native.Mathlib.Numerals.{add-one}
 use native.Mathlib.Omega.{arith}
-use lib.Dec.{ltb}
 use lib.ListN.{length, drop, drop_of_length-le}
 use Rattle.book.specs.declared.Book.{Book}
 use Rattle.book.specs.Kept.{book_ok}
@@ -18,10 +17,11 @@ use Rattle.protocol.specs.declared.Drive.{Drive}
 use Rattle.protocol.specs.declared.SlotAnswer.{SlotAnswer}
 use Rattle.protocol.proofs.Calls.SlotPasses.{reply_passes, slot_refused}
 use Rattle.protocol.proofs.Kept.StateKept.{call_kept}
-use Rattle.script.specs.Input.{most_bytes, is_stray, book_in, slots_at, slots_in, slots_fault, script_fault}
+use Rattle.script.specs.Input.{is_stray, book_in, slots_in, slots_fault}
 use Rattle.script.specs.Line.{line_of}
 use Rattle.script.specs.Output.{line_by, lines_from, script_says}
 use Rattle.script.specs.SaysTrue.{heard_in, given_in, replies_in, lines_of, SaysTrue}
+use Rattle.script.proofs.Saying.{fine}
 use Rattle.script.proofs.Slots.{three, or_right}
 
 -- slots without fault are whole
@@ -93,11 +93,6 @@ module _ (b : Book) (ok : book_ok b ≡ true) (xs : List ℕ) where
       so_far (length xs / 3) (omega (arith, whole xs f))
       ∙ rw (drop_of_length-le xs past, append-nil) refl
 
-slots_fine : (s : List ℕ) → script_fault s ≡ false → slots_fault (slots_in s) ≡ false
-unfolding script_fault
-slots_fine s f =
-    or_right (ltb (length s) (slots_at s)) (slots_fault (slots_in s)) (or_right (ltb (length s) 2) _ (or_right (ltb most_bytes (length s)) _ f))
-
 pub says_true : SaysTrue
 unfolding script_says start_of
-says_true s b f r = rw (f, r) (all_lines b (read_passes (book_in s) b r) (slots_in s) (slots_fine s f))
+says_true s b f r = rw (f, r) (all_lines b (read_passes (book_in s) b r) (slots_in s) (fine s f).slots)

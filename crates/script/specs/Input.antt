@@ -1,9 +1,8 @@
 -- A script: a 16-bit big-endian book length, the book, then three bytes a slot. Assumes nothing.
-use Rattle.std.specs.Prelude.{Bool, true, false, ◌||◌, List, [], ◌∷◌, ℕ, ◌+◌, ◌*◌, eqb, ltb, length, take, drop, get_or}
+use Rattle.std.specs.Prelude.{Bool, true, false, ◌||◌, List, [], ◌∷◌, ℕ, ◌+◌, ◌*◌, eqb, ltb, length, take, drop, get_or, Option}
+use Rattle.std.specs.Bool.{then_some}
 use Rattle.ground.specs.Digits.{bit}
 use Rattle.protocol.specs.Opened.{drive_with}
-use Rattle.protocol.specs.declared.Offer.{Offer}
-use Rattle.protocol.specs.declared.Offer.TheVariants.{Nothing, Unit}
 use Rattle.protocol.specs.declared.Drive.{Drive}
 
 abbrev pub most_bytes : ℕ
@@ -40,9 +39,8 @@ unfoldable pub script_fault : List ℕ → Bool
 script_fault s =
     ltb most_bytes (length s) || (ltb (length s) 2 || (ltb (length s) (slots_at s) || slots_fault (slots_in s)))
 
-abbrev pub offer_of : Bool → ℕ → Offer
-offer_of true unit = Unit unit
-offer_of false unit = Nothing
+abbrev pub offer_of : Bool → ℕ → Option ℕ
+offer_of offered unit = then_some offered unit
 
 -- leads s0 to s3 in bits 0 to 3, the break flag in bit 4, and bit 5 on if a unit is offered
 unfoldable pub drive_of : ℕ → ℕ → Drive

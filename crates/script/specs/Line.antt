@@ -1,12 +1,9 @@
 -- The line of a slot: seven fields parted by one space. Assumes nothing.
-use Rattle.std.specs.Prelude.{Bool, cond, List, [], ◌++◌, ℕ}
+use Rattle.std.specs.Prelude.{Bool, cond, List, [], ◌++◌, ℕ, Option, Some, None, Ok, Err}
+use Rattle.protocol.specs.Slot.{Reply, refusal_number}
 use Rattle.protocol.specs.declared.Signals.{Signals}
-use Rattle.protocol.specs.declared.Delivered.{Delivered}
-use Rattle.protocol.specs.declared.Delivered.TheVariants.{Nothing, Unit}
 use Rattle.protocol.specs.declared.Outcome.{Outcome}
 use Rattle.protocol.specs.declared.Outcome.TheVariants as outcome
-use Rattle.protocol.specs.declared.Reply.{Reply}
-use Rattle.protocol.specs.declared.Reply.TheVariants as reply
 use Rattle.text.specs.Ascii.{ascii}
 use Rattle.text.specs.Numerals.{decimal_of, hex_of, parameters_of}
 
@@ -15,22 +12,22 @@ space = ascii " "
 
 -- the byte sent, or -- where the slot was refused
 unfoldable pub sent_field : Reply → List ℕ
-sent_field (reply.Refused number) = ascii "--"
-sent_field (reply.Passed sent delivered taken stands) = hex_of sent.0
+sent_field (Err refusal) = ascii "--"
+sent_field (Ok passed) = hex_of passed.sent.0
 
 -- the unit delivered
-abbrev pub unit_field : Delivered → List ℕ
-unit_field Nothing = ascii "-"
-unit_field (Unit u) = decimal_of u
+abbrev pub unit_field : Option ℕ → List ℕ
+unit_field None = ascii "-"
+unit_field (Some u) = decimal_of u
 
 unfoldable pub delivered_field : Reply → List ℕ
-delivered_field (reply.Refused number) = ascii "-"
-delivered_field (reply.Passed sent delivered taken stands) = unit_field delivered
+delivered_field (Err refusal) = ascii "-"
+delivered_field (Ok passed) = unit_field passed.delivered
 
 -- whether the offered unit was taken
 unfoldable pub taken_field : Reply → List ℕ
-taken_field (reply.Refused number) = ascii "-"
-taken_field (reply.Passed sent delivered taken stands) = cond taken (ascii "t") (ascii "-")
+taken_field (Err refusal) = ascii "-"
+taken_field (Ok passed) = cond passed.taken (ascii "t") (ascii "-")
 
 abbrev pub flag_digit : Bool → List ℕ
 flag_digit on = cond on (ascii "1") (ascii "0")
@@ -64,8 +61,8 @@ detail_field (outcome.Refused number slot) = decimal_of number ++ ascii "/" ++ d
 
 -- the number where the slot itself was refused
 unfoldable pub refusal_note : Reply → List ℕ
-refusal_note (reply.Refused number) = ascii " by " ++ decimal_of number
-refusal_note (reply.Passed sent delivered taken stands) = []
+refusal_note (Err refusal) = ascii " by " ++ decimal_of (refusal_number refusal)
+refusal_note (Ok passed) = []
 
 -- what the reply of a slot says of it
 unfoldable pub reply_fields : Reply → List ℕ

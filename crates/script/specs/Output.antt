@@ -1,6 +1,8 @@
 -- What a script says. Assumes nothing.
-use Rattle.std.specs.Prelude.{cond, List, [], ◌∷◌, ◌++◌, ℕ, ◌+◌, eqb}
-use Rattle.book.specs.Reading.{number_of, read_book}
+use Rattle.std.specs.Prelude.{cond, List, [], ◌∷◌, ◌++◌, ℕ, ◌+◌, Ok, Err}
+use Rattle.book.specs.declared.Refusal.{Refusal}
+use Rattle.book.specs.Refusals.{refusal_number, Verdict}
+use Rattle.book.specs.Reading.{read_book}
 use Rattle.protocol.specs.declared.Endpoint.{Endpoint}
 use Rattle.protocol.specs.declared.SlotAnswer.{SlotAnswer}
 use Rattle.protocol.specs.declared.Start.{Start}
@@ -22,15 +24,16 @@ lines_from place e (heard ∷ flags ∷ []) = []
 lines_from place e (heard ∷ flags ∷ unit ∷ rest) =
     let a = slot_of e heard (drive_of flags unit) in line_by place a ++ lines_from (place + 1) a.state rest
 
-unfoldable pub book_refused : ℕ → List ℕ
-book_refused number = ascii "book refused by number " ++ decimal_of number ++ ascii "\n"
+unfoldable pub book_refused : Refusal → List ℕ
+book_refused refusal = ascii "book refused by number " ++ decimal_of (refusal_number refusal) ++ ascii "\n"
 
--- by the number of the book's verdict
-abbrev pub says_from : List ℕ → Endpoint → ℕ → List ℕ
-says_from slots e number = cond (eqb number 0) (lines_from 0 e slots) (book_refused number)
+-- by the book's verdict
+abbrev pub says_from : List ℕ → Endpoint → Verdict → List ℕ
+says_from slots e (Ok _) = lines_from 0 e slots
+says_from slots e (Err f) = book_refused f.refusal
 
 abbrev pub says_started : List ℕ → Start → List ℕ
-says_started slots b = says_from slots b.state (number_of b.verdict)
+says_started slots b = says_from slots b.state b.verdict
 
 -- the input is tested before the book is read
 unfoldable pub script_says : List ℕ → List ℕ

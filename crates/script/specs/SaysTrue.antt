@@ -1,16 +1,15 @@
 -- What a script says is what the call of demand 2 does: that call from the script's book, on the bytes and drives of its slots.
 -- Assumes nothing.
-use Rattle.std.specs.Prelude.{◌≡◌, false, cond, List, [], ◌++◌, ℕ, zero, suc, ◌+◌, ◌*◌, ◌/◌, length, get_or}
+use Rattle.std.specs.Prelude.{◌≡◌, false, cond, List, [], ◌++◌, ℕ, zero, suc, ◌+◌, ◌*◌, ◌/◌, length, get_or, Err}
 use Rattle.book.specs.declared.Book.{Book}
 use Rattle.book.specs.Reading.{accepts, read_book}
 use Rattle.channel.specs.Bytes.{byte}
 use Rattle.protocol.specs.Sent.{byte_sent}
-use Rattle.protocol.specs.Slot.{started, offer_allowed}
+use Rattle.protocol.specs.Slot.{started, offer_allowed, Reply, passed_with}
 use Rattle.protocol.specs.Call.{end_at, sent_at, delivered_at, taken_at, stands_at}
 use Rattle.protocol.specs.declared.Endpoint.{Endpoint}
 use Rattle.protocol.specs.declared.Drive.{Drive}
-use Rattle.protocol.specs.declared.Reply.{Reply}
-use Rattle.protocol.specs.declared.Reply.TheVariants.{Refused, Passed}
+use Rattle.protocol.specs.declared.SlotRefusal.TheVariants.{UnitOutOfRange}
 use Rattle.script.specs.Input.{book_in, slots_in, script_fault, drive_of}
 use Rattle.script.specs.Line.{line_of}
 use Rattle.script.specs.Output.{script_says}
@@ -27,9 +26,9 @@ module _ (e : Endpoint) (heard : ℕ → ℕ) (given : ℕ → Drive) where
   abbrev pub replies_in : ℕ → Reply
   replies_in t =
       cond (offer_allowed (end_at e heard given t) (given t) (end_at e heard given t).phase)
-      (Passed (byte (byte_sent (sent_at e heard given t))) (delivered_at e heard given t) (taken_at e heard given t)
+      (passed_with (byte (byte_sent (sent_at e heard given t))) (delivered_at e heard given t) (taken_at e heard given t)
       (stands_at e heard given (suc t)))
-      (Refused 12)
+      (Err UnitOutOfRange)
 
   -- the lines of its first n slots
   unfoldable pub lines_of : ℕ → List ℕ

@@ -1,10 +1,10 @@
 // A script: a 16-bit big-endian book length, the book, then three bytes a slot.
-ghost use Rattle.std.specs.Prelude.{◌≡◌, ◌+◌, ◌*◌, ◌/◌, ◌%◌, ◌≤◌, ◌<◌, eqb, length, drop};
-ghost use Rattle.script.specs.Input.{slots_at, is_stray, slots_fault, script_fault, offer_of, drive_of};
+ghost use Rattle.std.specs.Prelude.{◌≡◌, ◌↔◌, ◌/◌, ◌%◌, ◌≤◌, ◌<◌, false, eqb, length, IsTrue, IsNone, IfSome};
+ghost use Rattle.script.specs.Input.{most_bytes, book_in, slots_in, is_stray, slots_fault, script_fault, drive_of};
 
 use channel::byte::Leads;
 use opened::drive::drive_with;
-use protocol::{Drive, Offer};
+use protocol::Drive;
 
 const MOST_BYTES: usize = 65535;
 
@@ -22,16 +22,8 @@ fn is_stray(flags: u8) -> bool
     is_on(flags, 64) | is_on(flags, 128)
 }
 
-fn offer(offered: bool, unit: u8) -> Offer
-    ensures { result ≡ offer_of offered unit }
-{
-    if offered {
-        return Offer::Unit(unit);
-    }
-    Offer::Nothing
-}
-
 // What the second and the third byte of a slot give it.
+#[tactic(auto, unfolding(crate::specs::Input::drive_of))]
 pub(crate) fn drive(flags: u8, unit: u8) -> Drive
     ensures { result ≡ drive_of flags unit }
 {
@@ -41,55 +33,52 @@ pub(crate) fn drive(flags: u8, unit: u8) -> Drive
         s2: is_on(flags, 4),
         s3: is_on(flags, 8),
     };
-    drive_with(leads, is_on(flags, 16), offer(is_on(flags, 32), unit))
-}
-
-// Where a book ends whose length these two bytes say.
-fn book_end(high: u8, low: u8) -> usize
-    ensures { result ≡ 2 + (256 * high + low) }
-{
-    2 + (256 * (high as usize) + (low as usize))
-}
-
-// Where the slots start, which is where the book ends.
-pub(crate) fn slots_at(s: &[u8]) -> usize
-    requires { 2 ≤ length s.now }
-    ensures { result ≡ slots_at s.now }
-{
-    book_end(s[0], s[1])
+    drive_with(leads, is_on(flags, 16), is_on(flags, 32).then_some(unit))
 }
 
 // Whether the slots are cut, or one of them has bit 6 or 7 on.
-fn slots_fault(s: &[u8], from: usize) -> bool
-    requires { from ≤ length s.now }
-    ensures { result ≡ slots_fault (drop from s.now) }
+#[tactic(auto, using(crate::proofs::Slots::slots_walked))]
+fn slots_fault(slots: &[u8]) -> bool
+    ensures { result ≡ slots_fault slots.now }
 {
-    let mut i = from;
-    while i < s.len() {
-        if s.len() - i < 3 {
+    let mut rest = slots;
+    while let [_, flags, _, tail @ ..] = rest {
+        if is_stray(*flags) {
             return true;
         }
-        if is_stray(s[i + 1]) {
-            return true;
-        }
-        i = i + 3;
+        rest = tail;
     }
-    false
+    !rest.is_empty()
 }
 
-// Too large, or cut inside the length, the book or a slot, or a slot with bit 6 or 7 on.
-pub(crate) fn fault(s: &[u8]) -> bool
-    ensures { result ≡ script_fault s.now }
+// The parts of a script without fault.
+#[derive(Clone, Copy)]
+pub(crate) struct Script<'a> {
+    pub(crate) book: &'a [u8],
+    pub(crate) slots: &'a [u8],
+    ghost no_fault: { slots_fault slots.now ≡ false },
+    ghost short: { length slots.now ≤ most_bytes },
+}
+
+// None for a script too large, or cut inside the length, the book or a slot, or with a slot with bit 6 or 7 on.
+#[tactic(auto, unfolding(crate::specs::Input::script_fault))]
+pub(crate) fn script_in(s: &[u8]) -> Option<Script<'_>>
+    ensures fault { IsNone result ↔ IsTrue (script_fault s.now) }
+    ensures parts { IfSome result (λ p. (p.book.now ≡ book_in s.now) × (p.slots.now ≡ slots_in s.now)) }
 {
     if MOST_BYTES < s.len() {
-        return true;
+        return None;
     }
-    if s.len() < 2 {
-        return true;
+    let [high, low, rest @ ..] = s else {
+        return None;
+    };
+    let book_length = usize::from(u16::from_be_bytes([*high, *low]));
+    if rest.len() < book_length {
+        return None;
     }
-    let from = slots_at(s);
-    if s.len() < from {
-        return true;
+    let (book, slots) = rest.split_at(book_length);
+    if slots_fault(slots) {
+        return None;
     }
-    slots_fault(s, from)
+    Some(Script { book, slots })
 }

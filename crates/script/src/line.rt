@@ -5,35 +5,30 @@ ghost use Rattle.text.specs.Text.{text, appended};
 ghost use Rattle.script.specs.Line.{space, sent_field, unit_field, delivered_field, taken_field, flag_digit, signal_digits, signals_field, stands_field, detail_field, refusal_note, reply_fields, outcome_fields, line_of};
 
 use book::Entry;
-use protocol::{Delivered, Outcome, Reply, Signals};
-use text::{Text, decimal, empty, hex, parameters, word};
+use protocol::{Outcome, Reply, Signals};
+use text::Text;
 
 fn spaced(t: Text) -> Text
     ensures { result ≡ appended t space }
 {
-    word(t, b" ")
+    t.word(b" ")
 }
 
 fn with_sent(t: Text, reply: Reply) -> Text
     ensures { result ≡ appended t (sent_field reply) }
 {
     match reply {
-        Reply::Refused(_) => word(t, b"--"),
-        Reply::Passed {
-            sent,
-            delivered: _,
-            taken: _,
-            outcome: _,
-        } => hex(t, sent.0),
+        Ok(passed) => t.hex(passed.sent.0),
+        Err(_) => t.word(b"--"),
     }
 }
 
-fn with_unit(t: Text, delivered: Delivered) -> Text
+fn with_unit(t: Text, delivered: Option<u8>) -> Text
     ensures { result ≡ appended t (unit_field delivered) }
 {
     match delivered {
-        Delivered::Nothing => word(t, b"-"),
-        Delivered::Unit(u) => decimal(t, u as u16),
+        None => t.word(b"-"),
+        Some(u) => t.decimal(u16::from(u)),
     }
 }
 
@@ -41,13 +36,8 @@ fn with_delivered(t: Text, reply: Reply) -> Text
     ensures { result ≡ appended t (delivered_field reply) }
 {
     match reply {
-        Reply::Refused(_) => word(t, b"-"),
-        Reply::Passed {
-            sent: _,
-            delivered,
-            taken: _,
-            outcome: _,
-        } => with_unit(t, delivered),
+        Ok(passed) => with_unit(t, passed.delivered),
+        Err(_) => t.word(b"-"),
     }
 }
 
@@ -55,18 +45,13 @@ fn with_taken(t: Text, reply: Reply) -> Text
     ensures { result ≡ appended t (taken_field reply) }
 {
     match reply {
-        Reply::Refused(_) => word(t, b"-"),
-        Reply::Passed {
-            sent: _,
-            delivered: _,
-            taken,
-            outcome: _,
-        } => {
-            if taken {
-                return word(t, b"t");
+        Ok(passed) => {
+            if passed.taken {
+                return t.word(b"t");
             }
-            word(t, b"-")
+            t.word(b"-")
         }
+        Err(_) => t.word(b"-"),
     }
 }
 
@@ -74,9 +59,9 @@ fn with_flag(t: Text, on: bool) -> Text
     ensures { result ≡ appended t (flag_digit on) }
 {
     if on {
-        return word(t, b"1");
+        return t.word(b"1");
     }
-    word(t, b"0")
+    t.word(b"0")
 }
 
 // s3 s2 s1 s0 BK.
@@ -95,14 +80,9 @@ fn with_standing(t: Text, o: Outcome) -> Text
     ensures { result ≡ appended t (signals_field o) }
 {
     match o {
-        Outcome::Exchanging => word(t, b"-----"),
-        Outcome::Open {
-            version: _,
-            profile: _,
-            slot: _,
-            signals,
-        } => with_signals(t, signals),
-        Outcome::Refused { number: _, slot: _ } => word(t, b"-----"),
+        Outcome::Exchanging => t.word(b"-----"),
+        Outcome::Open { signals, .. } => with_signals(t, signals),
+        Outcome::Refused { .. } => t.word(b"-----"),
     }
 }
 
@@ -110,30 +90,27 @@ fn with_stands(t: Text, o: Outcome) -> Text
     ensures { result ≡ appended t (stands_field o) }
 {
     match o {
-        Outcome::Exchanging => word(t, b"exchange"),
-        Outcome::Open {
-            version: _,
-            profile: _,
-            slot: _,
-            signals: _,
-        } => word(t, b"open"),
-        Outcome::Refused { number: _, slot: _ } => word(t, b"refused"),
+        Outcome::Exchanging => t.word(b"exchange"),
+        Outcome::Open { .. } => t.word(b"open"),
+        Outcome::Refused { .. } => t.word(b"refused"),
     }
 }
 
 fn with_open(t: Text, version: u8, profile: Entry, slot: u16, signals: Signals) -> Text
     ensures { result ≡ appended t (detail_field (Open version profile slot signals)) }
 {
-    let a = word(decimal(t, version as u16), b"/");
-    let b = word(parameters(a, profile), b"/");
-    decimal(b, slot)
+    t.decimal(u16::from(version))
+        .word(b"/")
+        .parameters(profile)
+        .word(b"/")
+        .decimal(slot)
 }
 
 fn with_detail(t: Text, o: Outcome) -> Text
     ensures { result ≡ appended t (detail_field o) }
 {
     match o {
-        Outcome::Exchanging => word(t, b"-"),
+        Outcome::Exchanging => t.word(b"-"),
         Outcome::Open {
             version,
             profile,
@@ -141,7 +118,7 @@ fn with_detail(t: Text, o: Outcome) -> Text
             signals,
         } => with_open(t, version, profile, slot, signals),
         Outcome::Refused { number, slot } => {
-            decimal(word(decimal(t, number as u16), b"/"), slot)
+            t.decimal(u16::from(number)).word(b"/").decimal(slot)
         }
     }
 }
@@ -150,13 +127,8 @@ fn with_note(t: Text, reply: Reply) -> Text
     ensures { result ≡ appended t (refusal_note reply) }
 {
     match reply {
-        Reply::Refused(number) => decimal(word(t, b" by "), number as u16),
-        Reply::Passed {
-            sent: _,
-            delivered: _,
-            taken: _,
-            outcome: _,
-        } => t,
+        Ok(_) => t,
+        Err(refusal) => t.word(b" by ").decimal(u16::from(refusal.number())),
     }
 }
 
@@ -180,8 +152,8 @@ fn with_outcome(t: Text, o: Outcome) -> Text
 pub fn line(place: u16, o: Outcome, reply: Reply) -> Text
     ensures { result ≡ text (line_of place o reply) }
 {
-    let placed = decimal(empty(), place);
+    let placed = Text::new().decimal(place);
     let replied = with_reply(spaced(placed), reply);
     let told = with_outcome(spaced(replied), o);
-    word(with_note(told, reply), b"\n")
+    with_note(told, reply).word(b"\n")
 }

@@ -2,9 +2,9 @@
 #![tactic(auto)]
 
 use bookwords::told;
-use console::{Failure, Input, is_argument, read_all, tell};
+use console::{Failure, Program, read_all};
 use std::env::Env;
-use std::io::Write;
+use std::io::{Read, Write};
 
 // One place more than the longest book: what stands past that changes nothing of what is told.
 const PLACES: usize = 67;
@@ -12,11 +12,10 @@ const PLACES: usize = 67;
 // Room for all that is told of any book.
 const ROOM: usize = 400;
 
-// Told to who calls it with an argument.
-fn explain(rt: &HostRuntime) {
-    // where it can't be told, nothing more is to be done
-    let _ = rt.stderr().write_all(
-        b"tbook reads a book and tells which byte of it is wrong, or what the book says.\n\
+// What it is called, and what it tells who calls it with an argument.
+const PROGRAM: Program = Program {
+    name: b"tbook",
+    help: b"tbook reads a book and tells which byte of it is wrong, or what the book says.\n\
 It reads the bytes themselves, 17 to 66; xxd -r -p makes them from hex.\n\
 Of a book that is refused it prints one line, with the first byte that is wrong:\n  \
 refused by number 8 at byte 15: the form\n\
@@ -26,28 +25,22 @@ the limit in slots, and each entry with its parameters in hex and its form:\n  \
 entry 0: 0102030405 form 7\n  \
 entry 1: 0102030406 form 0 w 8\n\
 examples/book.hex has such a book, and examples/book-form.hex one with a slip in it.\n",
-    );
-}
+};
 
-fn answer(rt: &HostRuntime, input: &[u8]) {
-    let mut output = [0u8; ROOM];
-    let written = told(input, &mut output);
-    if rt.stdout().write_all(&output[..written]).is_err() {
-        tell(&mut rt.stderr(), b"tbook", Failure::NotWritten);
-    }
-}
-
-fn main(rt: HostRuntime) {
-    let mut first = [0u8; 1];
-    if is_argument(rt.arg(1, &mut first)) {
-        return explain(&rt);
-    }
+fn answer<R: Read, W: Write>(from: &mut R, to: &mut W) -> Result<(), Failure> {
     let mut input = [0u8; PLACES];
-    let read = read_all(&mut rt.stdin(), &mut input);
-    match read {
-        Input::Read(n) => answer(&rt, &input[..n]),
-        Input::Failed => {
-            tell(&mut rt.stderr(), b"tbook", Failure::NotRead);
-        }
+    let mut output = [0u8; ROOM];
+    let n = read_all(from, &mut input)?;
+    let length = told(&input[..n], &mut output);
+    let written = to.write_all(&output[..length]);
+    written.map_err(|_| Failure::NotWritten)
+}
+
+// The same lines in each program, since only `main` may name its runtime.
+fn main(rt: HostRuntime) {
+    let argument = rt.arg(1, &mut [0u8; 1]);
+    if !PROGRAM.explains(argument, &mut rt.stderr()) {
+        let outcome = answer(&mut rt.stdin(), &mut rt.stdout());
+        PROGRAM.ends(&mut rt.stderr(), outcome);
     }
 }

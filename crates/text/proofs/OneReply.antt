@@ -1,16 +1,20 @@
 -- Each public promise admits one reply, and one final buffer: read off the promise as the source states it. Assumes nothing.
 use mathlib.Core.Path.{◌≡◌}
 use Rattle.ground.proofs.OneReply.{one_reply}
-use Rattle.text.proofs.empty.Reads as empty
-use Rattle.text.proofs.push.Reads as push
-use Rattle.text.proofs.word.Reads as word
-use Rattle.text.proofs.decimal.Reads as decimal
-use Rattle.text.proofs.hex.Reads as hex
-use Rattle.text.proofs.parameters.Reads as parameters
-use Rattle.text.proofs.output.put.Reads as put
+use Rattle.text.proofs.Text.new.Reads as new
+use Rattle.text.proofs.Text.as_bytes.Reads as as_bytes
+use Rattle.text.proofs.Text.push.Reads as push
+use Rattle.text.proofs.Text.word.Reads as word
+use Rattle.text.proofs.Text.decimal.Reads as decimal
+use Rattle.text.proofs.Text.hex.Reads as hex
+use Rattle.text.proofs.Text.parameters.Reads as parameters
+use Rattle.text.proofs.Text.put.Reads as put
 
-pub empty_one : (a : _) (r s : _) (x y : _) → empty.Post tt a r x → empty.Post tt a s y → r ≡ s
-empty_one a r s x y p q = one_reply _ p q
+pub new_one : (a : _) (r s : _) (x y : _) → new.Post tt a r x → new.Post tt a s y → r ≡ s
+new_one a r s x y p q = one_reply _ p q
+
+pub as_bytes_one : (κs : _) (a : _) (r s : _) (x y : _) → as_bytes.Post κs a r x → as_bytes.Post κs a s y → r.now ≡ s.now
+as_bytes_one κs a r s x y p q = one_reply _ p q
 
 pub push_one : (a : _) (r s : _) (x y : _) → push.Post tt a r x → push.Post tt a s y → r ≡ s
 push_one a r s x y p q = one_reply _ p q

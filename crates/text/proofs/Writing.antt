@@ -1,12 +1,13 @@
 -- What each function of a text leaves to prove, on plain values. Assumes nothing.
-use mathlib.Core.Path.{◌≡◌, ap, sym, ◌∙◌}
-use mathlib.Core.List.{List}
+use mathlib.Core.Path.{◌≡◌, ap, ap₂, sym, ◌∙◌}
+use mathlib.Core.List.{List, ◌++◌, append_assoc}
 use Prim.Native.Nat.{ℕ, ◌+◌, ◌-◌, ◌/◌, ◌%◌, ◌≤◌, ◌<◌, min}
 use native.Mathlib.Nat.{add-zero, min-zero}
 use native.Mathlib.Numerals.{add-one}
 use native.Mathlib.Omega.{arith}
-use lib.ListN.{length, drop, set, get_or, drop_of_length-le}
-use lib.Seq.{drop-cons, paste, paste-zero, paste-suc}
+use lib.ListN.{length, take, drop, get_or, drop_of_length-le}
+use lib.Seq.{drop-cons, drop-drop, paste, paste-zero}
+use borrow.Rule.Slice.PartMut.{put_mid}
 use borrow.Author.Tests.{lt-ltb, le-ltb}
 use Rattle.text.specs.declared.Text.{Text}
 use Rattle.text.specs.Text.{room, pushed, appended}
@@ -46,17 +47,6 @@ pub two_digits : (b : ℕ) (t : Text) {x y : ℕ} {s r : Text} → x ≡ hex_dig
 unfolding appended hex_of
 two_digits b t ex es ey er = simp (er, es, ex, ey)
 
--- the copy of a text's bytes, one by one
-module _ (n at : ℕ) (bytes out₀ out : List ℕ) (i : ℕ) (all : length bytes ≡ room) (most : n ≤ room) (end : at + n ≤ length out₀)
-    (e : out ≡ paste out₀ at bytes i) where
-  pub paste_next : i < n → set out (at + i) (get_or bytes i 0) ≡ paste out₀ at bytes (i + 1)
-  paste_next h = rw (e, add-one i) (paste-suc out₀ at bytes i 0 (omega arith) (omega arith))
-
-  pub paste_end : i ≤ n → n ≤ i → out ≡ paste out₀ at bytes n
-  paste_end h k =
-      let j : i ≡ n = omega arith in
-      e ∙ ap (paste out₀ at bytes) j
-
 -- from the end on nothing is put
 module _ (t : Text) (at : ℕ) (out : List ℕ) (end : length out ≤ at) where
   none_put : put_count t at out ≡ 0
@@ -72,3 +62,13 @@ module _ (t : Text) (at : ℕ) (out : List ℕ) (end : length out ≤ at) where
 pub put_counted : (t : Text) (at : ℕ) (out : List ℕ) {k n : ℕ} → k ≡ min t.length room → n ≡ min k (length out - at) → n ≡ put_count t at out
 unfolding put_count
 put_counted t at out ek en = en ∙ ap (λ (k : ℕ). min k (length out - at)) ek
+
+-- n of the bytes, written to their part of the buffer
+pub put_pasted : (bytes : List ℕ) (at : ℕ) (out ys : List ℕ) (n : ℕ) {m : ℕ} → ys ≡ take n bytes → n ≡ m
+    → put_mid at (at + n - at) out ys ≡ paste out at bytes m
+put_pasted bytes at out ys n e same =
+    let k : at + n - at ≡ n = omega arith in
+    let rest : drop (at + n - at) (drop at out) ≡ drop (at + n) out = rw k (drop-drop n at out) in
+    ap₂ (λ (xs zs : List ℕ). take at out ++ (xs ++ zs)) e rest
+    ∙ sym (append_assoc (take at out) (take n bytes) (drop (at + n) out))
+    ∙ ap (paste out at bytes) same

@@ -1,19 +1,18 @@
 // tjoin: joins an originator's book and an answerer's over a delay, and tells how both ends conclude.
 #![tactic(auto)]
 
-use console::{Failure, Input, is_argument, read_all, tell};
+use console::{Failure, Program, read_all};
 use pair::report::report;
 use std::env::Env;
-use std::io::Write;
+use std::io::{Read, Write};
 
 // One place more than the longest input, which tells a longer one from it.
 const PLACES: usize = 85;
 
-// Told to who calls it with an argument.
-fn explain(rt: &HostRuntime) {
-    // where it can't be told, nothing more is to be done
-    let _ = rt.stderr().write_all(
-        b"tjoin joins two ends by a channel without damage and tells how both conclude.\n\
+// What it is called, and what it tells who calls it with an argument.
+const PROGRAM: Program = Program {
+    name: b"tjoin",
+    help: b"tjoin joins two ends by a channel without damage and tells how both conclude.\n\
 It reads 18 to 84 bytes: the originator's book (17 bytes), the answerer's book\n\
 (17 to 66) and the delay in slots (1 byte, not 0). It prints two lines, O and A:\n  \
 O open VERSION PARAMETERS SLOT   it opened in that slot; parameters in hex\n  \
@@ -23,29 +22,21 @@ O refused by number NUMBER       the book of O, or of A, is at fault\n  \
 pair refused                     these are not an originator's book and an answerer's\n  \
 input refused                    it is too short or too long, or the delay is 0\n\
 docs/NUMBERS.md says what each number means; examples/pair.hex has such an input.\n",
-    );
-}
+};
 
-fn answer(rt: &HostRuntime, input: &[u8]) {
-    let said = report(input);
-    let length = said.length as usize;
-    let bytes = said.bytes;
-    if rt.stdout().write_all(&bytes[..length]).is_err() {
-        tell(&mut rt.stderr(), b"tjoin", Failure::NotWritten);
-    }
-}
-
-fn main(rt: HostRuntime) {
-    let mut first = [0u8; 1];
-    if is_argument(rt.arg(1, &mut first)) {
-        return explain(&rt);
-    }
+fn answer<R: Read, W: Write>(from: &mut R, to: &mut W) -> Result<(), Failure> {
     let mut input = [0u8; PLACES];
-    let read = read_all(&mut rt.stdin(), &mut input);
-    match read {
-        Input::Read(n) => answer(&rt, &input[..n]),
-        Input::Failed => {
-            tell(&mut rt.stderr(), b"tjoin", Failure::NotRead);
-        }
+    let n = read_all(from, &mut input)?;
+    let said = report(&input[..n]);
+    let written = to.write_all(said.as_bytes());
+    written.map_err(|_| Failure::NotWritten)
+}
+
+// The same lines in each program, since only `main` may name its runtime.
+fn main(rt: HostRuntime) {
+    let argument = rt.arg(1, &mut [0u8; 1]);
+    if !PROGRAM.explains(argument, &mut rt.stderr()) {
+        let outcome = answer(&mut rt.stdin(), &mut rt.stdout());
+        PROGRAM.ends(&mut rt.stderr(), outcome);
     }
 }

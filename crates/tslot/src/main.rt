@@ -3,15 +3,21 @@
 
 ghost use Rattle.std.specs.Prelude.{◌≡◌, length};
 
-use console::{Failure, Input, is_argument, read_all, tell};
+use console::{Failure, Program, read_all};
 use std::env::Env;
-use std::io::Write;
+use std::io::{Read, Write};
 
-// Told to who calls it with an argument.
-fn explain(rt: &HostRuntime) {
-    // where it can't be told, nothing more is to be done
-    let _ = rt.stderr().write_all(
-        b"tslot drives one end with given bytes and tells what it does in each slot.\n\
+// Room for what any script says: 17 bytes for each byte that is read.
+fn output_buffer() -> [u8; 1114112]
+    ensures { 1114112 ≡ length result }
+{
+    [0; 1114112]
+}
+
+// What it is called, and what it tells who calls it with an argument.
+const PROGRAM: Program = Program {
+    name: b"tslot",
+    help: b"tslot drives one end with given bytes and tells what it does in each slot.\n\
 It reads up to 65,535 bytes: the book's length (2 bytes), the book, then for each slot\n\
 3 bytes: the byte received; s0 to s3 in bits 0 to 3, the break flag in bit 4, bit 5 on\n\
 if a unit is offered; the unit. It prints a line a slot, so:\n  \
@@ -21,36 +27,23 @@ exchange, open or refused, then VERSION/PARAMETERS/SLOT or NUMBER/SLOT; and last
 the slot was refused and has not passed. Or one line, book refused by number NUMBER (see\n\
 docs/NUMBERS.md), or input refused: it is too long, is cut in the length, the book or a\n\
 slot, or has bit 6 or 7 on. examples/answerer.hex has such an input.\n",
-    );
-}
+};
 
-// Room for what any script says: 17 bytes for each byte that is read.
-fn output_buffer() -> [u8; 1114112]
-    ensures { 1114112 ≡ length result }
-{
-    [0; 1114112]
-}
-
-fn answer(rt: &HostRuntime, input: &[u8]) {
-    let mut output = output_buffer();
-    let written = script::run(input, &mut output);
-    if rt.stdout().write_all(&output[..written]).is_err() {
-        tell(&mut rt.stderr(), b"tslot", Failure::NotWritten);
-    }
-}
-
-fn main(rt: HostRuntime) {
-    let mut first = [0u8; 1];
-    if is_argument(rt.arg(1, &mut first)) {
-        return explain(&rt);
-    }
+fn answer<R: Read, W: Write>(from: &mut R, to: &mut W) -> Result<(), Failure> {
     // one byte longer than the largest script, so that a larger one is told
     let mut input = io::large_buffer();
-    let read = read_all(&mut rt.stdin(), &mut input);
-    match read {
-        Input::Read(n) => answer(&rt, &input[..n]),
-        Input::Failed => {
-            tell(&mut rt.stderr(), b"tslot", Failure::NotRead);
-        }
+    let mut output = output_buffer();
+    let n = read_all(from, &mut input)?;
+    let length = script::run(&input[..n], &mut output);
+    let written = to.write_all(&output[..length]);
+    written.map_err(|_| Failure::NotWritten)
+}
+
+// The same lines in each program, since only `main` may name its runtime.
+fn main(rt: HostRuntime) {
+    let argument = rt.arg(1, &mut [0u8; 1]);
+    if !PROGRAM.explains(argument, &mut rt.stderr()) {
+        let outcome = answer(&mut rt.stdin(), &mut rt.stdout());
+        PROGRAM.ends(&mut rt.stderr(), outcome);
     }
 }

@@ -1,6 +1,9 @@
 -- `console::read_some` meets its contract. Assumes nothing.
-use Rattle.console.proofs.Reading.{came_within}
+use Rattle.console.proofs.Reading.{came_within, came_ends}
 use Rattle.console.proofs.read_some.Goals as goal
 
 pub returns : goal.returns
-returns g c = came_within _ _ c.came.ensures
+returns g c = record {
+  within = came_within _ _ c.came.ensures;
+  end = came_ends _ _ _ _ c.read-read.ensures.bytes c.came.ensures;
+}

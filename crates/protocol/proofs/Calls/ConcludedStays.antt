@@ -1,5 +1,6 @@
 -- What has concluded stays as it concluded: an open end but for its line, a refused end wholly, and that sends Sdidle for ever.
 -- Assumes nothing.
+use Rattle.std.specs.Prelude.{None}
 use mathlib.Core.Path.{◌≡◌, refl, ap, ◌∙◌}
 use mathlib.Core.Bool.{true, false}
 use Prim.Native.Nat.{ℕ, zero, suc, ◌+◌, ◌-◌, ◌≤◌}
@@ -19,7 +20,6 @@ use Rattle.protocol.specs.declared.Phase.{Phase}
 use Rattle.protocol.specs.declared.Phase.TheVariants.{Open, Refused}
 use Rattle.protocol.specs.declared.Endpoint.{Endpoint}
 use Rattle.protocol.specs.declared.Drive.{Drive}
-use Rattle.protocol.specs.declared.Delivered.TheVariants as delivered
 use Rattle.protocol.specs.declared.SlotAnswer.{SlotAnswer}
 use Rattle.protocol.proofs.Calls.SlotPasses.{step_passes}
 
@@ -118,7 +118,7 @@ refused_idles e heard given t u w later q = ap (λ (s : Step). s.sent) (refused_
 
 pub refused_ignores : (e : Endpoint) (heard : ℕ → ℕ) (given : ℕ → Drive) (t u : ℕ) {number slot : ℕ} → well_formed (end_at e heard given u) ≡ true → t ≤ u
     → (end_at e heard given t).phase ≡ Refused number slot
-    → (delivered_at e heard given u ≡ delivered.Nothing) × (taken_at e heard given u ≡ false)
+    → (delivered_at e heard given u ≡ None) × (taken_at e heard given u ≡ false)
 refused_ignores e heard given t u w later q = (
   ap (λ (s : Step). s.delivered) (refused_steps e heard given t u w later q),
   ap (λ (s : Step). s.taken) (refused_steps e heard given t u w later q),

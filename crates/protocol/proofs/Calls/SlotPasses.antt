@@ -6,20 +6,20 @@ use Prim.Native.Nat.{ℕ}
 use Rattle.channel.specs.Bytes.{byte}
 use Rattle.protocol.specs.Sent.{Silence, byte_sent}
 use Rattle.protocol.specs.Ranges.{well_formed}
-use Rattle.protocol.specs.Slot.{exchange_of, step, exchange_step, step_at, step_of, offer_allowed, outcome_of, passes, refuses, slot_step, slot_of}
+use Rattle.protocol.specs.Slot.{exchange_of, step, exchange_step, step_at, step_of, offer_allowed, outcome_of, passes, refuses, slot_step, slot_of, passed_with}
 use Rattle.protocol.specs.declared.Awaited.{Awaited}
 use Rattle.protocol.specs.declared.Sending.{Sending}
 use Rattle.protocol.specs.declared.Phase.TheVariants.{Exchanging}
 use Rattle.protocol.specs.declared.Endpoint.{Endpoint}
 use Rattle.protocol.specs.declared.Drive.{Drive}
-use Rattle.protocol.specs.declared.Reply.TheVariants.{Passed}
+use Rattle.protocol.specs.declared.SlotRefusal.TheVariants.{UnitOutOfRange}
 
 module _ (e : Endpoint) (heard : ℕ) (g : Drive) (w : well_formed e ≡ true) where
   pub slot_passes : offer_allowed e g e.phase ≡ true → slot_of e heard g ≡ passes (step_of e heard g)
   unfolding slot_of
   slot_passes a = rw (w, a)
 
-  pub slot_refused : offer_allowed e g e.phase ≡ false → slot_of e heard g ≡ refuses e 12
+  pub slot_refused : offer_allowed e g e.phase ≡ false → slot_of e heard g ≡ refuses e UnitOutOfRange
   unfolding slot_of
   slot_refused a = rw (w, a)
 
@@ -29,7 +29,7 @@ module _ (e : Endpoint) (heard : ℕ) (g : Drive) (w : well_formed e ≡ true) w
 
   -- the reply says what the slot brings, and where the end then stands
   pub reply_passes : offer_allowed e g e.phase ≡ true
-      → (slot_of e heard g).reply ≡ Passed (byte (byte_sent (slot_step e heard g).sent)) (slot_step e heard g).delivered (slot_step e heard g).taken (outcome_of (slot_of e heard g).state)
+      → (slot_of e heard g).reply ≡ passed_with (byte (byte_sent (slot_step e heard g).sent)) (slot_step e heard g).delivered (slot_step e heard g).taken (outcome_of (slot_of e heard g).state)
   unfolding slot_of slot_step
   reply_passes a = rw (w, a)
 

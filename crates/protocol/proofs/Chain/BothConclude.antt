@@ -1,4 +1,5 @@
 -- The joined pair concludes: both ends open alike, or both refuse alike. Assumes nothing.
+use Rattle.std.specs.Prelude.{Option, Some, None}
 use mathlib.Core.Path.{◌≡◌, refl, sym, ap, ◌∙◌, subst}
 use mathlib.Core.Bool.{true, false}
 use mathlib.Core.List.{[], ◌∷◌}
@@ -28,8 +29,6 @@ use Rattle.protocol.specs.declared.Exchange.{Exchange}
 use Rattle.protocol.specs.declared.Awaited.TheVariants.{Nothing}
 use Rattle.protocol.specs.declared.Sending.TheVariants.{Done}
 use Rattle.protocol.specs.declared.Fate.TheVariants.{OpensHearing, OpensSending, Refuses}
-use Rattle.protocol.specs.declared.Match.{Match}
-use Rattle.protocol.specs.declared.Match.TheVariants as match
 use Rattle.protocol.specs.declared.Outcome.TheVariants.{Exchanging, Refused}
 use Rattle.protocol.specs.declared.Drive.{Drive}
 use Rattle.protocol.proofs.Kept.Matching.{same_self, same_comm, same_entry}
@@ -173,7 +172,7 @@ module _ {d e : ℕ} {later : Later} (bo ba : Book) {go ga : ℕ → Drive} {ho 
     abbrev own : Entry
     own = entry_of (as_o bo) 0
 
-    abbrev found : Match
+    abbrev found : Option ℕ
     found = match_in (common bo ba) ba.entries (params_of (entry_of (as_o bo) 0)) ba.n
 
     bytes_o_lem : (k : ℕ) → get_or (own.p0 ∷ own.p1 ∷ own.p2 ∷ own.p3 ∷ own.p4 ∷ []) k 0 < 256
@@ -246,7 +245,7 @@ module _ {d e : ℕ} {later : Later} (bo ba : Book) {go ga : ℕ → Drive} {ho 
           q0 q1 q2 q3 q4 replied bytes-q some_o enough_o q
 
     -- the profile is entry i of A's book
-    module _ (i : ℕ) (f : found ≡ match.Entry i) where
+    module _ (i : ℕ) (f : found ≡ Some i) where
       pub profile_is : entry_of (as_a ba) i ≡ own
       profile_is =
           let n = found_same d bo ba p.books shared i f in
@@ -301,7 +300,7 @@ module _ {d e : ℕ} {later : Later} (bo ba : Book) {go ga : ℕ → Drive} {ho 
           own.p0 own.p1 own.p2 own.p3 own.p4 replied_own bytes_o_lem some_o enough_o t (omega arith) (omega arith))
 
     -- it is in none
-    module _ (f : found ≡ match.Nothing) where
+    module _ (f : found ≡ None) where
       pub refuse_22_a : Concludes slot_a_lem (λ u. u ≡ Refused 22 slot_a_lem) (stands_at (started (as_a ba)) heard_a given_a)
       refuse_22_a =
           refuses_in (as_a ba) heard_a given_a kept_a slot_a_lem within_a talks_a 22

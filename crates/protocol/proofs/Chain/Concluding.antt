@@ -1,4 +1,5 @@
 -- The parameters are exchanged and the ends conclude, where a version is shared. Assumes nothing.
+use Rattle.std.specs.Prelude.{Option, Some, None}
 use mathlib.Core.Path.{◌≡◌, refl, ap, ◌∙◌, subst}
 use mathlib.Core.Bool.{true, false}
 use mathlib.Core.List.{List, [], ◌∷◌}
@@ -24,8 +25,6 @@ use Rattle.protocol.specs.Sent.{Alone, parameter_sent}
 use Rattle.protocol.proofs.Computing.{moving}
 use Rattle.protocol.specs.declared.Awaited.TheVariants.{Run, Group, Nothing}
 use Rattle.protocol.specs.declared.Sending.TheVariants.{Idle, Parameters, Done}
-use Rattle.protocol.specs.declared.Match.{Match}
-use Rattle.protocol.specs.declared.Match.TheVariants as match
 use Rattle.protocol.specs.declared.Fate.{Fate}
 use Rattle.protocol.specs.declared.Fate.TheVariants.{OpensHearing, Refuses}
 use Rattle.protocol.proofs.Chain.Segments.{Said, Says, During, join, one, one_said, climb, hold}
@@ -53,16 +52,16 @@ unfolding moving
 idle_heard b values = refl
 
 -- with its last byte an answerer has concluded
-opened_by : (t : Turn) (f : Match) → core_by t (opens_on f) ≡ record { to = Over (opens_on f) t.exchange; out = Says t.sent }
-opened_by t (match.Entry i) = refl
-opened_by t match.Nothing = refl
+opened_by : (t : Turn) (f : Option ℕ) → core_by t (opens_on f) ≡ record { to = Over (opens_on f) t.exchange; out = Says t.sent }
+opened_by t (Some i) = refl
+opened_by t None = refl
 
 -- the first of the answerer's parameter bytes goes in the slot that completes p4, and each of the others in the next
 module _ (b : Book) (v i0 p0 p1 p2 p3 p4 : ℕ) where
   abbrev pub theirs : List ℕ
   theirs = p0 ∷ p1 ∷ p2 ∷ p3 ∷ p4 ∷ []
 
-  abbrev pub found : Match
+  abbrev pub found : Option ℕ
   found = match_in v b.entries theirs b.n
 
   abbrev pub replies : List ℕ

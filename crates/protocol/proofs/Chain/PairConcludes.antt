@@ -1,4 +1,5 @@
 -- The first half of what is promised of the joined pair: both ends open alike, or both refuse alike with the true reason. Assumes nothing.
+use Rattle.std.specs.Prelude.{Option, Some, None}
 use mathlib.Core.Path.{◌≡◌, refl, sym, ◌∙◌}
 use mathlib.Core.Bool.{true, false}
 use mathlib.Core.Logic.{◌⊎◌, inl, inr}
@@ -14,8 +15,6 @@ use Rattle.protocol.specs.Slot.{started}
 use Rattle.protocol.specs.Call.{stands_at}
 use Rattle.protocol.specs.Pair.{JoinedPair, ProfileIn, Concludes, BothOpen, BothRefuse, shared_version}
 use Rattle.protocol.specs.Late.{Later, AnswererLater, starts_o, starts_a, starting, stands_from, JoinedLate, meets_late, BothOpenLate, BothRefuseLate}
-use Rattle.protocol.specs.declared.Match.{Match}
-use Rattle.protocol.specs.declared.Match.TheVariants as match
 use Rattle.protocol.specs.declared.Drive.{Drive}
 use Rattle.protocol.specs.declared.Outcome.{Outcome}
 use Rattle.protocol.specs.declared.Outcome.TheVariants.{Exchanging}
@@ -31,10 +30,10 @@ use Rattle.protocol.proofs.Chain.BothConclude.{refuse_21_o, refuse_21_a, open_o,
 pub profile_decided : (bo ba : Book) → ProfileIn bo ba ⊎ (ProfileIn bo ba → ⊥)
 profile_decided bo ba = by (match_in 0 ba.entries (params_of (entry_of bo 0)) ba.n) refl
   where
-    by : (m : Match) → match_in 0 ba.entries (params_of (entry_of bo 0)) ba.n ≡ m → ProfileIn bo ba ⊎ (ProfileIn bo ba → ⊥)
-    by (match.Entry i) e =
+    by : (m : Option ℕ) → match_in 0 ba.entries (params_of (entry_of bo 0)) ba.n ≡ m → ProfileIn bo ba ⊎ (ProfileIn bo ba → ⊥)
+    by (Some i) e =
         let n = names 0 ba.entries (params_of (entry_of bo 0)) ba.n i e in inl (record { entry = i; below = n.0; same = n.1 })
-    by match.Nothing e =
+    by None e =
         inr
         (λ f.
         let z : true ≡ false = sym f.same ∙ names_none 0 ba.entries (params_of (entry_of bo 0)) ba.n f.entry e f.below in
@@ -93,24 +92,24 @@ module _ (d e : ℕ) (later : Later) (go ga : ℕ → Drive) (ho ha : ℕ → �
     met_a : h ≤ concludes_a h d (as_o bo) (as_a ba)
     met_a = omega arith
 
-    open_by : ProfileIn (as_o bo) (as_a ba) → (m : Match) → match_in (common bo ba) ba.entries (params_of (entry_of bo 0)) ba.n ≡ m
+    open_by : ProfileIn (as_o bo) (as_a ba) → (m : Option ℕ) → match_in (common bo ba) ba.entries (params_of (entry_of bo 0)) ba.n ≡ m
         → Opens (as_o bo) (as_a ba)
-    open_by f (match.Entry i) q =
+    open_by f (Some i) q =
         record {
           o = by_common_o (concludes_o h d (as_o bo) (as_a ba)) met_o (open_o bo ba p shared i q);
           a = by_common_a (concludes_a h d (as_o bo) (as_a ba)) met_a (open_a bo ba p shared i q);
         }
-    open_by f match.Nothing q =
+    open_by f None q =
         let z : true ≡ false = sym f.same ∙ found_none d bo ba p.books shared f.entry q f.below in
         let w : ◌≡◌ {A = ℕ} 0 1 = cc in
         absurd (omega arith)
 
-    refuse_by : (ProfileIn (as_o bo) (as_a ba) → ⊥) → (m : Match) → match_in (common bo ba) ba.entries (params_of (entry_of bo 0)) ba.n ≡ m
+    refuse_by : (ProfileIn (as_o bo) (as_a ba) → ⊥) → (m : Option ℕ) → match_in (common bo ba) ba.entries (params_of (entry_of bo 0)) ba.n ≡ m
         → Differs (as_o bo) (as_a ba)
-    refuse_by f (match.Entry i) q =
+    refuse_by f (Some i) q =
         let n = found_same d bo ba p.books shared i q in
         absurd (f (record { entry = i; below = n.0; same = n.1 }))
-    refuse_by f match.Nothing q =
+    refuse_by f None q =
         record {
           o = by_common_o (concludes_o h d (as_o bo) (as_a ba)) met_o (refuse_22_o bo ba p shared q);
           a = by_common_a (concludes_a h d (as_o bo) (as_a ba)) met_a (refuse_22_a bo ba p shared q);

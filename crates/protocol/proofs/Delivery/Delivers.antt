@@ -1,4 +1,5 @@
 -- From one call to the other: what the sender carries in all its slots is what the receiver delivers in all of its. Assumes nothing.
+use Rattle.std.specs.Prelude.{Some, None}
 use mathlib.Core.Path.{◌≡◌, refl, sym, ap, ap₂, ◌∙◌, subst}
 use mathlib.Core.Bool.{true, false}
 use mathlib.Core.List.{List, [], ◌++◌}
@@ -15,9 +16,7 @@ use Rattle.protocol.specs.Delivery.{signals_of}
 use Rattle.protocol.specs.Late.{starting}
 use Rattle.protocol.specs.declared.Shape.{Shape}
 use Rattle.protocol.specs.declared.Shape.TheVariants as shape
-use Rattle.protocol.specs.declared.Offer.TheVariants as offer
 use Rattle.protocol.specs.declared.Drive.{Drive}
-use Rattle.protocol.specs.declared.Delivered.TheVariants as delivered
 use Rattle.protocol.specs.declared.Outcome.{Outcome}
 use Rattle.protocol.specs.declared.Outcome.TheVariants as outcome
 use Rattle.protocol.specs.declared.Endpoint.{Endpoint}
@@ -35,11 +34,11 @@ pub record SendsFrom (x : ℕ) (s : Shape) (e : Endpoint) (heard : ℕ → ℕ) 
   pub sent : (n : ℕ) → sent_at e heard given (x + n) ≡ (goes s drives n).sent
   pub carries : (n : ℕ) → carried (taken_at e heard given (x + n)) (given (x + n)).offer (sent_at e heard given (x + n))
       ≡ carried (goes s drives n).taken (drives n).offer (goes s drives n).sent
-  pub allowed : (n u : ℕ) → (drives n).offer ≡ offer.Unit u → has_unit s u ≡ true
+  pub allowed : (n u : ℕ) → (drives n).offer ≡ Some u → has_unit s u ≡ true
 
 -- the receiver e, open for receiving from slot y on
 pub record ReadsFrom (y : ℕ) (s : Shape) (e : Endpoint) (heard : ℕ → ℕ) (given : ℕ → Drive) : Type 0 where
-  pub quiet : (t : ℕ) → t < y → delivered_at e heard given t ≡ delivered.Nothing
+  pub quiet : (t : ℕ) → t < y → delivered_at e heard given t ≡ None
   pub delivered : (n : ℕ) → delivered_at e heard given (y + n) ≡ (comes s (λ m. heard (y + m)) n).delivered
   -- before, it shows what it shows as if two Sdidle had come
   pub idle : (t : ℕ) → t < y → signals_of (stands_at e heard given t) ≡ idle_signals
@@ -52,7 +51,7 @@ module _ (e : Endpoint) (heard : ℕ → ℕ) (given : ℕ → Drive) where
   carried_none (suc x) q =
       rw (carried_none x (λ t l. q t (omega arith)), (q x (omega arith)).0, (q x (omega arith)).1) refl
 
-  delivered_none : (y : ℕ) → ((t : ℕ) → t < y → delivered_at e heard given t ≡ delivered.Nothing) → delivered_before e heard given y ≡ []
+  delivered_none : (y : ℕ) → ((t : ℕ) → t < y → delivered_at e heard given t ≡ None) → delivered_before e heard given y ≡ []
   unfolding delivered_before
   delivered_none zero q = refl
   delivered_none (suc y) q = rw (delivered_none y (λ t l. q t (omega arith)), q y (omega arith)) refl

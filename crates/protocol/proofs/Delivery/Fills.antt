@@ -1,4 +1,5 @@
 -- A unit that goes was offered and taken, or is the all-ones fill; so is each that was carried. Assumes nothing.
+use Rattle.std.specs.Prelude.{Option, Some, None}
 use mathlib.Core.Path.{◌≡◌, refl, sym, ap, ◌∙◌, subst}
 use mathlib.Core.Bool.{Bool, true, false, ◌&&◌}
 use mathlib.Core.List.{List, [], ◌∷◌, ◌++◌}
@@ -21,8 +22,6 @@ use Rattle.protocol.specs.Slot.{Step, open_step, step_at, offer_allowed, outcome
 use Rattle.protocol.specs.Call.{end_at, sent_at, taken_at}
 use Rattle.protocol.specs.Carried.{fill, offered, carried, carried_before}
 use Rattle.protocol.specs.Delivery.{AllOnes, Offered, Filled, CameFrom}
-use Rattle.protocol.specs.declared.Half.{Half}
-use Rattle.protocol.specs.declared.Half.TheVariants.{Empty, Holds}
 use Rattle.protocol.specs.declared.Shape.{Shape}
 use Rattle.protocol.specs.declared.Shape.TheVariants as shape
 use Rattle.protocol.specs.declared.Claim.{Claim}
@@ -31,17 +30,15 @@ use Rattle.protocol.specs.declared.Outbound.{Outbound}
 use Rattle.protocol.specs.declared.Phase.{Phase}
 use Rattle.protocol.specs.declared.Phase.TheVariants.{Exchanging, Open, Refused}
 use Rattle.protocol.specs.declared.Endpoint.{Endpoint}
-use Rattle.protocol.specs.declared.Offer.{Offer}
-use Rattle.protocol.specs.declared.Offer.TheVariants as offer
 use Rattle.protocol.specs.declared.Drive.{Drive}
 use Rattle.protocol.proofs.Delivery.Quiet.{phase_quiet}
 
-pub record Told (taken : Bool) (o : Offer) (sent : Sent) : Type 0 where
+pub record Told (taken : Bool) (o : Option ℕ) (sent : Sent) : Type 0 where
   pub offered : taken ≡ true → Offered o
   pub ones : (f : Form) (u : ℕ) → taken ≡ false → sent ≡ Unit f u → AllOnes f u
 
 -- where none is taken and no unit goes
-quiet_told : (taken : Bool) (o : Offer) (sent : Sent) → taken ≡ false → fill sent ≡ [] → Told taken o sent
+quiet_told : (taken : Bool) (o : Option ℕ) (sent : Sent) → taken ≡ false → fill sent ≡ [] → Told taken o sent
 quiet_told taken o sent e q =
     record {
       offered = λ t. let z : true ≡ false = sym t ∙ e in let w : ◌≡◌ {A = ℕ} 0 1 = cc in absurd (omega arith);
@@ -56,12 +53,12 @@ unfolding writes_opening
 opening_told s o g =
     either_way (ToldOf g) (ltb o.opening opening_sd) (quiet_told false g.offer _ refl refl) (quiet_told false g.offer _ refl refl)
 
-word_told : (w : ℕ) (o : Outbound) (g : Drive) (x : Offer) → g.offer ≡ x → ToldOf g (writes_word w o g x)
-word_told w o g offer.Nothing e = quiet_told false g.offer _ refl refl
-word_told w o g (offer.Unit u) e =
+word_told : (w : ℕ) (o : Outbound) (g : Drive) (x : Option ℕ) → g.offer ≡ x → ToldOf g (writes_word w o g x)
+word_told w o g None e = quiet_told false g.offer _ refl refl
+word_told w o g (Some u) e =
     record { offered = λ t. record { unit = u; is = e }; ones = λ f v t r. let z : ◌≡◌ {A = ℕ} 0 1 = cc in absurd (omega arith) }
 
-fill_told : (f : Form) → pair_form f ≡ true → (o : Offer) → Told false o (Unit f (units_of f - 1))
+fill_told : (f : Form) → pair_form f ≡ true → (o : Option ℕ) → Told false o (Unit f (units_of f - 1))
 fill_told f p o =
     record {
       offered = λ t. let w : ◌≡◌ {A = ℕ} 0 1 = cc in absurd (omega arith);
@@ -72,13 +69,13 @@ fill_told f p o =
           record { form = subst (λ x. pair_form x ≡ true) z p; ones = sym w ∙ ap (λ x. units_of x - 1) z };
     }
 
-unit_told : (f : Form) (o : Outbound) (g : Drive) (x : Offer) → g.offer ≡ x → ToldOf g (writes_unit f o g x)
-unit_told f o g (offer.Unit u) e =
+unit_told : (f : Form) (o : Outbound) (g : Drive) (x : Option ℕ) → g.offer ≡ x → ToldOf g (writes_unit f o g x)
+unit_told f o g (Some u) e =
     record { offered = λ t. record { unit = u; is = e }; ones = λ h v t r. let z : ◌≡◌ {A = ℕ} 0 1 = cc in absurd (omega arith) }
-unit_told Six o g offer.Nothing e = quiet_told false g.offer _ refl refl
-unit_told SevenV1 o g offer.Nothing e = fill_told SevenV1 refl g.offer
-unit_told SevenV2 o g offer.Nothing e = fill_told SevenV2 refl g.offer
-unit_told Eight o g offer.Nothing e = fill_told Eight refl g.offer
+unit_told Six o g None e = quiet_told false g.offer _ refl refl
+unit_told SevenV1 o g None e = fill_told SevenV1 refl g.offer
+unit_told SevenV2 o g None e = fill_told SevenV2 refl g.offer
+unit_told Eight o g None e = fill_told Eight refl g.offer
 
 offer_told : (s : Shape) (o : Outbound) (g : Drive) → ToldOf g (writes_offer s o g g.offer)
 offer_told (shape.Word w) o g = word_told w o g g.offer refl
@@ -89,9 +86,9 @@ claim_told s o g (Second leads) = quiet_told false g.offer _ refl refl
 claim_told s o g Owed = offer_told s o g
 claim_told s o g Free = either_way (ToldOf g) (changed g.leads o) (quiet_told false g.offer _ refl refl) (offer_told s o g)
 
-due_told : (w : ℕ) (o : Outbound) (g : Drive) (h : Half) → ToldOf g (writes_due w o g h)
-due_told w o g (Holds high) = quiet_told false g.offer _ refl refl
-due_told w o g Empty =
+due_told : (w : ℕ) (o : Outbound) (g : Drive) (h : Option ℕ) → ToldOf g (writes_due w o g h)
+due_told w o g (Some high) = quiet_told false g.offer _ refl refl
+due_told w o g None =
     either_way (ToldOf g) (held g.flag o.last.bk o.before.bk) (quiet_told false g.offer _ refl refl)
     (claim_told (shape.Word w) o g o.claim)
 
@@ -121,9 +118,9 @@ module _ (e : Endpoint) (heard : ℕ → ℕ) (given : ℕ → Drive) where
       (phase_told end (heard t) (given t) end.phase) (quiet_told false (given t).offer _ refl refl)
 
   -- a slot carries one unit at most
-  one_carried : (taken : Bool) (o : Offer) (sent : Sent) → length (carried taken o sent) ≤ 1
-  one_carried true offer.Nothing sent = omega arith
-  one_carried true (offer.Unit u) sent = omega arith
+  one_carried : (taken : Bool) (o : Option ℕ) (sent : Sent) → length (carried taken o sent) ≤ 1
+  one_carried true None sent = omega arith
+  one_carried true (Some u) sent = omega arith
   one_carried false o Silence = omega arith
   one_carried false o (Alone b) = omega arith
   one_carried false o (Part place value) = omega arith
@@ -135,17 +132,17 @@ module _ (e : Endpoint) (heard : ℕ → ℕ) (given : ℕ → Drive) where
   filled_by (Part place value) f l = absurd (omega arith)
   filled_by (Unit g u) f l = record { form = g; sent = refl; ones = f g u refl }
 
-  offered_by : (o : Offer) → 1 ≤ length (offered o) → o ≡ offer.Unit (get_or (offered o) 0 0)
-  offered_by offer.Nothing l = absurd (omega arith)
-  offered_by (offer.Unit u) l = refl
+  offered_by : (o : Option ℕ) → 1 ≤ length (offered o) → o ≡ Some (get_or (offered o) 0 0)
+  offered_by None l = absurd (omega arith)
+  offered_by (Some u) l = refl
 
   abbrev in_slot : ℕ → List ℕ
   in_slot t = carried (taken_at e heard given t) (given t).offer (sent_at e heard given t)
 
-  offered_slot : (t : ℕ) → 1 ≤ length (in_slot t) → taken_at e heard given t ≡ true → (given t).offer ≡ offer.Unit (get_or (in_slot t) 0 0)
+  offered_slot : (t : ℕ) → 1 ≤ length (in_slot t) → taken_at e heard given t ≡ true → (given t).offer ≡ Some (get_or (in_slot t) 0 0)
   offered_slot t l q =
       subst
-      (λ taken. 1 ≤ length (carried taken (given t).offer (sent_at e heard given t)) → (given t).offer ≡ offer.Unit (get_or (carried taken (given t).offer (sent_at e heard given t)) 0 0))
+      (λ taken. 1 ≤ length (carried taken (given t).offer (sent_at e heard given t)) → (given t).offer ≡ Some (get_or (carried taken (given t).offer (sent_at e heard given t)) 0 0))
       (sym q) (offered_by (given t).offer) l
 
   filled_slot : (t : ℕ) → 1 ≤ length (in_slot t) → taken_at e heard given t ≡ false → Filled (sent_at e heard given t) (get_or (in_slot t) 0 0)

@@ -1,4 +1,5 @@
 -- The receiving half of an open end mirrors the sending half of the other, slot by slot, with the form as a parameter. Assumes nothing.
+use Rattle.std.specs.Prelude.{Some}
 use mathlib.Core.Path.{◌≡◌, refl, sym, subst}
 use mathlib.Core.Bool.{true}
 use mathlib.Core.List.{List, []}
@@ -9,7 +10,6 @@ use Rattle.protocol.specs.declared.Shape.{Shape}
 use Rattle.protocol.specs.declared.Shape.TheVariants as shape
 use Rattle.protocol.specs.declared.Outbound.{Outbound}
 use Rattle.protocol.specs.declared.Inbound.{Inbound}
-use Rattle.protocol.specs.declared.Offer.TheVariants as offer
 use Rattle.protocol.specs.declared.Drive.{Drive}
 use Rattle.protocol.proofs.Delivery.MirrorKept.{ArrivesOne, Kept, late, at_once}
 use Rattle.protocol.proofs.Delivery.WordsMirrored.{none, Words, word_step}
@@ -24,7 +24,7 @@ comes_out (shape.Word w) = late
 comes_out (shape.Unit f) = at_once
 
 pub mirror_step : (s : Shape) (o : Outbound) (i : Inbound) (h : Shown) (pending : List ℕ) (g : Drive) (heard : ℕ) → Mirror s o i h pending
-    → ((u : ℕ) → g.offer ≡ offer.Unit u → has_unit s u ≡ true) → ArrivesOne (writing s o g).sent heard
+    → ((u : ℕ) → g.offer ≡ Some u → has_unit s u ≡ true) → ArrivesOne (writing s o g).sent heard
     → Kept (Mirror s) (comes_out s) h pending (writing s o g) (reading s i heard) g.offer
 unfolding has_unit
 mirror_step (shape.Word w) o i h pending g heard m allowed a =

@@ -1,4 +1,5 @@
 -- What one slot keeps of the mirror: the signals that the receiving half shows, and the units that are on their way. Assumes nothing.
+use Rattle.std.specs.Prelude.{Option}
 use mathlib.Core.Path.{◌≡◌, refl, sym, ◌∙◌, subst}
 use mathlib.Core.Bool.{Bool}
 use mathlib.Core.List.{List, ◌++◌}
@@ -12,11 +13,8 @@ use Rattle.channel.proofs.ReadBack.{b8_ignored, sd_read}
 use Rattle.protocol.specs.Sent.{Sent, Silence, Alone, Part, Unit}
 use Rattle.protocol.specs.Opened.{Reading, Writing, reads, reads_sd}
 use Rattle.protocol.specs.Carried.{carried, units_out, Shown, shown_next}
-use Rattle.protocol.specs.declared.Half.{Half}
 use Rattle.protocol.specs.declared.Outbound.{Outbound}
 use Rattle.protocol.specs.declared.Inbound.{Inbound}
-use Rattle.protocol.specs.declared.Delivered.{Delivered}
-use Rattle.protocol.specs.declared.Offer.{Offer}
 
 -- what of one byte sent may arrive
 abbrev pub ArrivesOne : Sent → ℕ → Type 0
@@ -38,11 +36,11 @@ pub signalled_sd : {h : Shown} {i : Inbound} → Signalled h i → (l : Leads) (
 signalled_sd {h} {i} q l b = rw (sd_read l b) (record { last = refl; standing = rw (q.last, q.standing) })
 
 -- a byte that is no Sd leaves them
-pub signalled_on : {h : Shown} {i : Inbound} → Signalled h i → (half : Half) (pair : ℕ) (d : Delivered) → Signalled h (reads i half pair d).inbound
+pub signalled_on : {h : Shown} {i : Inbound} → Signalled h i → (half : Option ℕ) (pair : ℕ) (d : Option ℕ) → Signalled h (reads i half pair d).inbound
 signalled_on q half pair d = record { last = q.last; standing = q.standing }
 
 -- what a slot gives: the mirror is kept, and what was pending and is carried is what is delivered and is pending now
-pub record Kept (M : Outbound → Inbound → Shown → List ℕ → Type 0) (out : List ℕ → List ℕ → List ℕ) (h : Shown) (pending : List ℕ) (w : Writing) (r : Reading) (o : Offer)
+pub record Kept (M : Outbound → Inbound → Shown → List ℕ → Type 0) (out : List ℕ → List ℕ → List ℕ) (h : Shown) (pending : List ℕ) (w : Writing) (r : Reading) (o : Option ℕ)
     : Type 0 where
   pub now : List ℕ
   pub mirror : M w.outbound r.inbound (shown_next w.sent h) now
@@ -57,7 +55,7 @@ abbrev pub at_once : List ℕ → List ℕ → List ℕ
 at_once pending now = now
 
 -- a slot whose writing is known
-pub kept_as : {M : Outbound → Inbound → Shown → List ℕ → Type 0} {out : List ℕ → List ℕ → List ℕ} {h : Shown} {pending : List ℕ} {w x : Writing} {r : Reading} {o : Offer} (heard : ℕ) → w ≡ x
+pub kept_as : {M : Outbound → Inbound → Shown → List ℕ → Type 0} {out : List ℕ → List ℕ → List ℕ} {h : Shown} {pending : List ℕ} {w x : Writing} {r : Reading} {o : Option ℕ} (heard : ℕ) → w ≡ x
     → ArrivesOne w.sent heard → (ArrivesOne x.sent heard → Kept M out h pending x r o) → Kept M out h pending w r o
 kept_as {M} {out} {h} {pending} {r = r} {o} heard e a f =
     subst (λ w. Kept M out h pending w r o) (sym e) (f (subst (λ w. ArrivesOne w.sent heard) e a))

@@ -1,4 +1,5 @@
 -- An end that opens in a call, as a sender and as a receiver from then on. Assumes nothing.
+use Rattle.std.specs.Prelude.{Some, None}
 use mathlib.Core.Path.{◌≡◌, refl, sym, ap, ap₂, ◌∙◌, subst}
 use mathlib.Core.Bool.{true, false}
 use mathlib.Core.List.{List, []}
@@ -27,8 +28,6 @@ use Rattle.protocol.specs.declared.Exchange.{Exchange}
 use Rattle.protocol.specs.declared.Phase.TheVariants.{Open}
 use Rattle.protocol.specs.declared.Endpoint.{Endpoint}
 use Rattle.protocol.specs.declared.Outcome.TheVariants as outcome
-use Rattle.protocol.specs.declared.Offer.TheVariants as offer
-use Rattle.protocol.specs.declared.Delivered.TheVariants as delivered
 use Rattle.protocol.specs.declared.Drive.{Drive}
 use Rattle.protocol.proofs.Delivery.MirrorKept.{heard_sd}
 use Rattle.protocol.proofs.Delivery.UnitsRead.{reads_sd_lem}
@@ -40,7 +39,7 @@ use Rattle.protocol.proofs.Delivery.Delivers.{SendsFrom, ReadsFrom}
 -- The first byte of an open end does not depend on what is offered.
 
 abbrev unoffered : Drive → Drive
-unoffered g = drive_with g.leads g.flag offer.Nothing
+unoffered g = drive_with g.leads g.flag None
 
 first_writes : (s : Shape) (g : Drive) → writing s fresh_line.outbound (unoffered g) ≡ writing s fresh_line.outbound g
 unfolding writing writes_opening fresh_line
@@ -69,7 +68,7 @@ outs_as s g h o p q e (suc n) = ap₂ (λ j x. (writing s j x).outbound) (outs_a
 
 -- Sdidle changes nothing in an end that has just opened.
 
-idle_reads : (s : Shape) (heard : ℕ) → heard / 2 ≡ sdidle / 2 → reading s fresh_line.inbound heard ≡ record { inbound = fresh_line.inbound; delivered = delivered.Nothing }
+idle_reads : (s : Shape) (heard : ℕ) → heard / 2 ≡ sdidle / 2 → reading s fresh_line.inbound heard ≡ record { inbound = fresh_line.inbound; delivered = None }
 unfolding moving
 idle_reads (shape.Word w) heard e = ap (reads_word w fresh_line.inbound) (heard_sd idle_leads _ heard e)
 idle_reads (shape.Unit f) heard e = reads_sd_lem fresh_line.inbound heard f idle_leads refl e
@@ -96,7 +95,7 @@ module _ (e : Endpoint) (heard : ℕ → ℕ) (given : ℕ → Drive) (kept : (t
   quiet_before : (t : ℕ) → t ≤ s → (taken_at e heard given t ≡ false) × (fill (sent_at e heard given t) ≡ [])
   quiet_before t l = let q = exchange_quiet (end_at e heard given t) (heard t) (given t) (before t l) in (q.takes, q.sends)
 
-  silent_before : (t : ℕ) → t ≤ s → delivered_at e heard given t ≡ delivered.Nothing
+  silent_before : (t : ℕ) → t ≤ s → delivered_at e heard given t ≡ None
   silent_before t l = (exchange_quiet (end_at e heard given t) (heard t) (given t) (before t l)).delivers
 
   idle_before : (t : ℕ) → t ≤ s → signals_of (stands_at e heard given t) ≡ idle_signals
@@ -126,19 +125,19 @@ module _ (e : Endpoint) (heard : ℕ → ℕ) (given : ℕ → Drive) (kept : (t
 
     -- and hearing Sdidle up to slot suc s + k
     module _ (k : ℕ) (idle : (m : ℕ) → m < k → heard (suc s + m) / 2 ≡ sdidle / 2) where
-      silent_while : (m : ℕ) → m < k → delivered_at e heard given (suc s + m) ≡ delivered.Nothing
+      silent_while : (m : ℕ) → m < k → delivered_at e heard given (suc s + m) ≡ None
       silent_while m l =
           run_delivers e heard given kept allowed (suc s) s version i b nibbles values fresh_line start m
           ∙ ap (λ j. (reading laid j (heard (suc s + m))).delivered) (ins_idle laid (λ n. heard (suc s + n)) m (λ n h. idle n (omega arith)))
           ∙ ap (λ r. r.delivered) (idle_reads laid (heard (suc s + m)) (idle m l))
 
-      quiet_until : (t : ℕ) → t < suc s + k → delivered_at e heard given t ≡ delivered.Nothing
+      quiet_until : (t : ℕ) → t < suc s + k → delivered_at e heard given t ≡ None
       quiet_until t l = go (dec_lt s t)
         where
-          go : Dec (s < t) → delivered_at e heard given t ≡ delivered.Nothing
+          go : Dec (s < t) → delivered_at e heard given t ≡ None
           go (yes h) =
               let z : suc s + (t - suc s) ≡ t = omega arith in
-              subst (λ u. delivered_at e heard given u ≡ delivered.Nothing) z (silent_while (t - suc s) (omega arith))
+              subst (λ u. delivered_at e heard given u ≡ None) z (silent_while (t - suc s) (omega arith))
           go (no h) = silent_before t (omega arith)
 
       idle_while : (m : ℕ) → m < k → signals_of (stands_at e heard given (suc s + m)) ≡ idle_signals
@@ -227,12 +226,12 @@ module _ (e : Endpoint) (heard : ℕ → ℕ) (given : ℕ → Drive) (kept : (t
     as_carried (suc n) =
         ap₂ (λ taken sent. carried taken (given (s + suc n)).offer sent) (as_taken n) (as_sent_lem (suc n))
 
-    as_allowed : (n u : ℕ) → (first_unoffered given_from n).offer ≡ offer.Unit u → has_unit as_laid u ≡ true
+    as_allowed : (n u : ℕ) → (first_unoffered given_from n).offer ≡ Some u → has_unit as_laid u ≡ true
     as_allowed zero u q = let z : ◌≡◌ {A = ℕ} 0 1 = cc in absurd (omega arith)
     as_allowed (suc n) u q =
         let z : s + suc n ≡ suc s + n = omega arith in
         run_allowed e heard given kept allowed (suc s) s x.version i b no_nibbles x.hearing.values line start n u
-        (subst (λ t. (given t).offer ≡ offer.Unit u) z q)
+        (subst (λ t. (given t).offer ≡ Some u) z q)
 
     as_led : (n : ℕ) → (first_unoffered given_from n).leads ≡ (given (s + n)).leads
     as_led zero = refl

@@ -1,4 +1,5 @@
 -- An open end in a call, slot by slot: its sending half goes by what it is given, its receiving half by what it hears. Assumes nothing.
+use Rattle.std.specs.Prelude.{Some}
 use mathlib.Core.Path.{◌≡◌, sym, ap, ◌∙◌}
 use mathlib.Core.Bool.{true}
 use mathlib.Core.List.{List}
@@ -16,7 +17,6 @@ use Rattle.protocol.specs.declared.Inbound.{Inbound}
 use Rattle.protocol.specs.declared.Line.{Line}
 use Rattle.protocol.specs.declared.Phase.TheVariants.{Open}
 use Rattle.protocol.specs.declared.Endpoint.{Endpoint}
-use Rattle.protocol.specs.declared.Offer.TheVariants as offer
 use Rattle.protocol.specs.declared.Drive.{Drive}
 use Rattle.protocol.specs.declared.SlotAnswer.{SlotAnswer}
 use Rattle.protocol.proofs.Calls.SlotPasses.{slot_passes, step_passes}
@@ -78,7 +78,7 @@ module _ (e : Endpoint) (heard : ℕ → ℕ) (given : ℕ → Drive) (kept : (t
   run_delivers n = ap (λ (s : Step). s.delivered) (run_step n)
 
   -- an offer that is allowed has a unit of the form
-  pub run_allowed : (n u : ℕ) → (given (x + n)).offer ≡ offer.Unit u → has_unit laid u ≡ true
+  pub run_allowed : (n u : ℕ) → (given (x + n)).offer ≡ Some u → has_unit laid u ≡ true
   unfolding offer_allowed
   run_allowed n u q =
       sym (ap (λ (o : _). Rattle.protocol.specs.Slot.offer_fits (opened n) version i o) q)

@@ -1,4 +1,5 @@
 -- The second half of what is promised of the joined pair: each unit taken is delivered once, in order, unchanged. Assumes nothing.
+use Rattle.std.specs.Prelude.{Option, Some, None}
 use mathlib.Core.Path.{◌≡◌, refl, sym, ap, ap₂, ◌∙◌, subst, subst₂}
 use mathlib.Core.Bool.{Bool, true, false}
 use mathlib.Core.List.{[]}
@@ -31,8 +32,6 @@ use Rattle.protocol.specs.Delivery.{signals_of, AllOnes, Offered, CarriesOver, C
 use Rattle.protocol.specs.Late.{Later, AnswererLater, starts_o, starts_a, since, starting, sent_from, JoinedLate, meets_late, CarriesLate, BothCarryLate, DipsticksLate}
 use Rattle.protocol.specs.declared.Shape.{Shape}
 use Rattle.protocol.specs.declared.Shape.TheVariants as shape
-use Rattle.protocol.specs.declared.Match.{Match}
-use Rattle.protocol.specs.declared.Match.TheVariants as match
 use Rattle.protocol.specs.declared.Endpoint.{Endpoint}
 use Rattle.protocol.specs.declared.Drive.{Drive}
 use Rattle.protocol.proofs.Chain.Roles.{as_o, as_a, common}
@@ -113,7 +112,7 @@ module _ (x d b c : ℕ) (s : Shape) (small : (w : ℕ) → s ≡ shape.Word w �
 -- Both directions, with the roles named.
 module _ {d e : ℕ} {later : Later} (bo ba : Book) {go ga : ℕ → Drive} {ho ha : ℕ → ℕ}
     (p : JoinedLate d e later (as_o bo) (as_a ba) go ga ho ha) (shared : eqb (common bo ba) 0 ≡ false)
-    (i : ℕ) (f : match_in (common bo ba) ba.entries (params_of (entry_of (as_o bo) 0)) ba.n ≡ match.Entry i) where
+    (i : ℕ) (f : match_in (common bo ba) ba.entries (params_of (entry_of (as_o bo) 0)) ba.n ≡ Some i) where
   abbrev s : Shape
   s = shape_of (entry_of (as_o bo) 0) (common bo ba)
 
@@ -206,13 +205,13 @@ pub record BothSendLate (d e : ℕ) (later : Later) (bo ba : Book) (go ga : ℕ 
 
 module _ (d e : ℕ) (later : Later) (go ga : ℕ → Drive) (ho ha : ℕ → ℕ) where
   carry_by : (bo ba : Book) → JoinedLate d e later (as_o bo) (as_a ba) go ga ho ha → eqb (common bo ba) 0 ≡ false → ProfileIn (as_o bo) (as_a ba)
-      → (m : Match) → match_in (common bo ba) ba.entries (params_of (entry_of bo 0)) ba.n ≡ m
+      → (m : Option ℕ) → match_in (common bo ba) ba.entries (params_of (entry_of bo 0)) ba.n ≡ m
       → BothCarryLate d e later (as_o bo) (as_a ba) go ga ho ha × BothSendLate d e later (as_o bo) (as_a ba) go ga ho ha
-  carry_by bo ba p shared f (match.Entry i) q = (
+  carry_by bo ba p shared f (Some i) q = (
     record { from_o = from_o_lem bo ba p shared i q; from_a = from_a_lem bo ba p shared i q },
     record { from_o = sends_o_lem bo ba p shared i q; from_a = from_next bo ba p shared i q },
   )
-  carry_by bo ba p shared f match.Nothing q =
+  carry_by bo ba p shared f None q =
       let z : true ≡ false = sym f.same ∙ found_none d bo ba p.books shared f.entry q f.below in
       let w : ◌≡◌ {A = ℕ} 0 1 = cc in
       absurd (omega arith)

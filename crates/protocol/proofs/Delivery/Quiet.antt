@@ -1,4 +1,5 @@
 -- An end in the exchange delivers nothing, takes nothing and sends no unit. Assumes nothing.
+use Rattle.std.specs.Prelude.{None}
 use mathlib.Core.Path.{◌≡◌, refl}
 use mathlib.Core.Bool.{false, ◌&&◌}
 use mathlib.Core.List.{List, []}
@@ -26,12 +27,11 @@ use Rattle.protocol.specs.declared.Fate.TheVariants.{Stays, OpensHearing, OpensS
 use Rattle.protocol.specs.declared.Phase.{Phase}
 use Rattle.protocol.specs.declared.Phase.TheVariants.{Exchanging, Open, Refused}
 use Rattle.protocol.specs.declared.Outcome.TheVariants as outcome
-use Rattle.protocol.specs.declared.Delivered.TheVariants as delivered
 use Rattle.protocol.specs.declared.Endpoint.{Endpoint}
 use Rattle.protocol.specs.declared.Drive.{Drive}
 
 pub record Quiet (s : Step) : Type 0 where
-  pub delivers : s.delivered ≡ delivered.Nothing
+  pub delivers : s.delivered ≡ None
   pub takes : s.taken ≡ false
   pub sends : fill s.sent ≡ []
 

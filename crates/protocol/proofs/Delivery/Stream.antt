@@ -1,4 +1,5 @@
 -- What an open end carries is what the other delivers, in order, from the slot in which the first opening byte goes. Assumes nothing.
+use Rattle.std.specs.Prelude.{Some}
 use mathlib.Core.Path.{◌≡◌, refl, sym, ap, ◌∙◌, subst}
 use mathlib.Core.Bool.{true}
 use mathlib.Core.List.{List, [], ◌++◌, append_assoc, append-nil}
@@ -11,7 +12,6 @@ use Rattle.protocol.specs.declared.Shape.{Shape}
 use Rattle.protocol.specs.declared.Shape.TheVariants as shape
 use Rattle.protocol.specs.declared.Outbound.{Outbound}
 use Rattle.protocol.specs.declared.Inbound.{Inbound}
-use Rattle.protocol.specs.declared.Offer.TheVariants as offer
 use Rattle.protocol.specs.declared.Drive.{Drive}
 use Rattle.protocol.proofs.Delivery.MirrorKept.{ArrivesOne, Kept}
 use Rattle.protocol.proofs.Delivery.UnitsMirrored.{Units}
@@ -45,7 +45,7 @@ module _ (s : Shape) (given : ℕ → Drive) (heard : ℕ → ℕ) where
     mirror : Mirror s (outs s given fresh_line.outbound n) (ins s heard fresh_line.inbound n) (shown s given n) pending
     lists : carried_in s given n ≡ delivered_in s heard n ++ pending
 
-  module _ (small : (w : ℕ) → s ≡ shape.Word w → w ≤ 8) (allowed : (n u : ℕ) → (given n).offer ≡ offer.Unit u → has_unit s u ≡ true)
+  module _ (small : (w : ℕ) → s ≡ shape.Word w → w ≤ 8) (allowed : (n u : ℕ) → (given n).offer ≡ Some u → has_unit s u ≡ true)
       (arrives : (n : ℕ) → ArrivesOne (goes s given n).sent (heard n)) where
     one_more : (n : ℕ) (u : Upto n)
         → Kept (Mirror s) (comes_out s) (shown s given n) u.pending (goes s given n) (comes s heard n) (given n).offer

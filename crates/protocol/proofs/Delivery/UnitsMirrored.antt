@@ -1,4 +1,5 @@
 -- Forms 6, 7 and 8: the receiving half mirrors the sending half of the other end, unit by unit. Assumes nothing.
+use Rattle.std.specs.Prelude.{Option, Some, None}
 use mathlib.Core.Path.{◌≡◌, refl, sym, ap, ◌∙◌, subst}
 use mathlib.Core.Bool.{Bool, true, false, cond}
 use mathlib.Core.List.{List, [], ◌∷◌}
@@ -17,15 +18,11 @@ use Rattle.protocol.specs.Sent.{Alone, Unit}
 use Rattle.protocol.specs.Opened.{opening_bytes, pair_form, reads, reading, writes, writes_sd, writes_unit, changed, writes_claim, writing, writes_opening, writes_data}
 use Rattle.protocol.proofs.Computing.{moving}
 use Rattle.protocol.specs.Carried.{carried, Shown, shown_next}
-use Rattle.protocol.specs.declared.Half.TheVariants.{Empty}
 use Rattle.protocol.specs.declared.Shape.TheVariants as shape
 use Rattle.protocol.specs.declared.Claim.{Claim}
 use Rattle.protocol.specs.declared.Claim.TheVariants.{Free, Second, Owed}
 use Rattle.protocol.specs.declared.Outbound.{Outbound}
 use Rattle.protocol.specs.declared.Inbound.{Inbound}
-use Rattle.protocol.specs.declared.Delivered.TheVariants as delivered
-use Rattle.protocol.specs.declared.Offer.{Offer}
-use Rattle.protocol.specs.declared.Offer.TheVariants as offer
 use Rattle.protocol.specs.declared.Drive.{Drive}
 use Rattle.protocol.proofs.Delivery.MirrorKept.{ArrivesOne, Signalled, signalled_sd, signalled_on, Kept, at_once, kept_as}
 use Rattle.protocol.proofs.Delivery.UnitsRead.{reads_sd_lem, reads_05, reads_0d, reads_six_lem, reads_unit}
@@ -55,42 +52,42 @@ module _ (f : Form) (o : Outbound) (i : Inbound) (h : Shown) (g : Drive) (heard 
       })
 
   -- a byte alone that is no Sd: of the pair
-  units_pair : (b pair : ℕ) (opening : ℕ) → reading (shape.Unit f) i heard ≡ reads i Empty pair delivered.Nothing → shown_next (Alone b) h ≡ h
+  units_pair : (b pair : ℕ) (opening : ℕ) → reading (shape.Unit f) i heard ≡ reads i None pair None → shown_next (Alone b) h ≡ h
       → pair ≡ pair_after opening → opening ≤ opening_bytes (shape.Unit f)
-      → Kept (Units f) at_once h [] (writes o opening Empty (Alone b) false) (reading (shape.Unit f) i heard) g.offer
+      → Kept (Units f) at_once h [] (writes o opening None (Alone b) false) (reading (shape.Unit f) i heard) g.offer
   units_pair b pair opening r s z l =
       rw r
       (record {
         now = [];
-        mirror = rw s (record { signals = signalled_on m.signals Empty pair delivered.Nothing; empty = refl; pair = z; opening = l });
+        mirror = rw s (record { signals = signalled_on m.signals None pair None; empty = refl; pair = z; opening = l });
         units = refl;
         delivers = refl;
       })
 
   -- a unit, taken or fill
-  units_one : (u pair : ℕ) (taken : Bool) → reading (shape.Unit f) i heard ≡ reads i Empty pair (delivered.Unit u) → pair ≡ pair_after o.opening
+  units_one : (u pair : ℕ) (taken : Bool) → reading (shape.Unit f) i heard ≡ reads i None pair (Some u) → pair ≡ pair_after o.opening
       → carried taken g.offer (Unit f u) ≡ u ∷ []
-      → Kept (Units f) at_once h [] (writes o o.opening Empty (Unit f u) taken) (reading (shape.Unit f) i heard) g.offer
+      → Kept (Units f) at_once h [] (writes o o.opening None (Unit f u) taken) (reading (shape.Unit f) i heard) g.offer
   units_one u pair taken r z c =
       rw r
       (record {
         now = [];
-        mirror = record { signals = signalled_on m.signals Empty pair (delivered.Unit u); empty = refl; pair = z; opening = m.opening };
+        mirror = record { signals = signalled_on m.signals None pair (Some u); empty = refl; pair = z; opening = m.opening };
         units = c;
         delivers = sym c;
       })
 
 -- one slot of form 6
 module _ (o : Outbound) (i : Inbound) (h : Shown) (g : Drive) (heard : ℕ) where
-  module _ (z : o.opening ≡ 16) (allowed : (u : ℕ) → g.offer ≡ offer.Unit u → fits Six u ≡ true) (m : Units Six o i h []) where
+  module _ (z : o.opening ≡ 16) (allowed : (u : ℕ) → g.offer ≡ Some u → fits Six u ≡ true) (m : Units Six o i h []) where
     six_sd : (c : Claim) (leads : Leads) → heard / 2 ≡ sd_byte leads false / 2
         → Kept (Units Six) at_once h [] (writes_sd (shape.Unit Six) o o.opening c leads g) (reading (shape.Unit Six) i heard) g.offer
     six_sd c leads a = units_sd Six o i h g heard m o.opening c leads (rw (m.pair, z) refl) (rw z refl) m.opening a
 
-    six_offer : (x : Offer) → g.offer ≡ x → ArrivesOne (writes_unit Six o g x).sent heard
+    six_offer : (x : Option ℕ) → g.offer ≡ x → ArrivesOne (writes_unit Six o g x).sent heard
         → Kept (Units Six) at_once h [] (writes_unit Six o g x) (reading (shape.Unit Six) i heard) g.offer
-    six_offer offer.Nothing e a = six_sd o.claim g.leads a
-    six_offer (offer.Unit u) e a =
+    six_offer None e a = six_sd o.claim g.leads a
+    six_offer (Some u) e a =
         units_one Six o i h g heard m u 0 true (reads_six_lem i heard u (allowed u e) a) (rw z refl) (rw e refl)
 
     six_claim : (c : Claim) → ArrivesOne (writes_claim (shape.Unit Six) o g c).sent heard
@@ -113,7 +110,7 @@ module _ (o : Outbound) (i : Inbound) (h : Shown) (g : Drive) (heard : ℕ) wher
   none_yet : (n : ℕ) → n ≤ 16 → 0 ≡ pair_after n
   none_yet n l = rw (lt-ltb n 17 (omega arith)) refl
 
-  six_step : ((u : ℕ) → g.offer ≡ offer.Unit u → fits Six u ≡ true) → Units Six o i h []
+  six_step : ((u : ℕ) → g.offer ≡ Some u → fits Six u ≡ true) → Units Six o i h []
       → ArrivesOne (writing (shape.Unit Six) o g).sent heard → Kept (Units Six) at_once h [] (writing (shape.Unit Six) o g) (reading (shape.Unit Six) i heard) g.offer
   six_step allowed m a = go (ltb o.opening 16) refl
     where
@@ -138,11 +135,11 @@ module _ (f : Form) (p : pair_form f ≡ true) (o : Outbound) (i : Inbound) (h :
   unfolding writing writes_opening
   stream_sd l = rw (p, lt-ltb o.opening 18 (omega arith), lt-ltb o.opening 16 l) refl
 
-  stream_05 : o.opening ≡ 16 → writing (shape.Unit f) o g ≡ writes o 17 Empty (Alone 0x05) false
+  stream_05 : o.opening ≡ 16 → writing (shape.Unit f) o g ≡ writes o 17 None (Alone 0x05) false
   unfolding writing writes_opening
   stream_05 e = rw (p, e) refl
 
-  stream_0d : o.opening ≡ 17 → writing (shape.Unit f) o g ≡ writes o 18 Empty (Alone 0x0D) false
+  stream_0d : o.opening ≡ 17 → writing (shape.Unit f) o g ≡ writes o 18 None (Alone 0x0D) false
   unfolding writing writes_opening
   stream_0d e = rw (p, e) refl
 
@@ -171,17 +168,17 @@ module _ (f : Form) (p : pair_form f ≡ true) (o : Outbound) (i : Inbound) (h :
   ones_fit SevenV2 = refl
   ones_fit Eight = refl
 
-  module _ (allowed : (u : ℕ) → g.offer ≡ offer.Unit u → fits f u ≡ true) (m : Units f o i h []) where
-    stream_offer : (x : Offer) → g.offer ≡ x → o.opening ≡ 18 → ArrivesOne (writes_unit f o g x).sent heard
+  module _ (allowed : (u : ℕ) → g.offer ≡ Some u → fits f u ≡ true) (m : Units f o i h []) where
+    stream_offer : (x : Option ℕ) → g.offer ≡ x → o.opening ≡ 18 → ArrivesOne (writes_unit f o g x).sent heard
         → Kept (Units f) at_once h [] (writes_unit f o g x) (reading (shape.Unit f) i heard) g.offer
-    stream_offer (offer.Unit u) e z a =
+    stream_offer (Some u) e z a =
         units_one f o i h g heard m u 2 true (reads_unit i heard f u p (m.pair ∙ rw z refl) (allowed u e) a) (rw z refl) (rw e refl)
-    stream_offer offer.Nothing e z a =
+    stream_offer None e z a =
         subst (λ w. Kept (Units f) at_once h [] w (reading (shape.Unit f) i heard) g.offer) (sym filled)
         (units_one f o i h g heard m (units_of f - 1) 2 false
         (reads_unit i heard f (units_of f - 1) p (m.pair ∙ rw z refl) (ones_fit f) (subst (λ w. ArrivesOne w.sent heard) filled a)) (rw z refl) refl)
       where
-        filled : writes_unit f o g offer.Nothing ≡ writes o o.opening Empty (Unit f (units_of f - 1)) false
+        filled : writes_unit f o g None ≡ writes o o.opening None (Unit f (units_of f - 1)) false
         filled = rw p refl
 
     stream_step : ArrivesOne (writing (shape.Unit f) o g).sent heard → Kept (Units f) at_once h [] (writing (shape.Unit f) o g) (reading (shape.Unit f) i heard) g.offer
@@ -205,7 +202,7 @@ module _ (f : Form) (p : pair_form f ≡ true) (o : Outbound) (i : Inbound) (h :
             kept_as heard (stream_data e) a (stream_offer g.offer refl e)
 
 -- in each of these forms
-pub unit_step : (f : Form) (o : Outbound) (i : Inbound) (h : Shown) (g : Drive) (heard : ℕ) → ((u : ℕ) → g.offer ≡ offer.Unit u → fits f u ≡ true) → Units f o i h []
+pub unit_step : (f : Form) (o : Outbound) (i : Inbound) (h : Shown) (g : Drive) (heard : ℕ) → ((u : ℕ) → g.offer ≡ Some u → fits f u ≡ true) → Units f o i h []
     → ArrivesOne (writing (shape.Unit f) o g).sent heard → Kept (Units f) at_once h [] (writing (shape.Unit f) o g) (reading (shape.Unit f) i heard) g.offer
 unit_step Six o i h g heard allowed m a = six_step o i h g heard allowed m a
 unit_step SevenV1 o i h g heard allowed m a = stream_step SevenV1 refl o i h g heard allowed m a

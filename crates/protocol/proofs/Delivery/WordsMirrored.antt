@@ -1,4 +1,5 @@
 -- Form 0: the receiving half mirrors the sending half of the other end, word by word. Assumes nothing.
+use Rattle.std.specs.Prelude.{Option, Some, None}
 use mathlib.Core.Path.{◌≡◌, refl, sym, ◌∙◌, subst}
 use mathlib.Core.Bool.{Bool, true, false}
 use mathlib.Core.List.{List, [], ◌∷◌}
@@ -16,22 +17,18 @@ use Rattle.channel.proofs.ReadBack.{b8_ignored, dl_read, dh_read}
 use Rattle.protocol.specs.Sent.{Alone}
 use Rattle.protocol.specs.Opened.{agreed, agreed_signals, reads, reading, reads_word, writes, writes_sd, writes_word, changed, writes_claim, held, writes_due, writing, writes_opening, writes_data}
 use Rattle.protocol.specs.Carried.{Shown}
-use Rattle.protocol.specs.declared.Half.TheVariants.{Empty, Holds}
 use Rattle.protocol.specs.declared.Shape.TheVariants as shape
 use Rattle.protocol.specs.declared.Claim.{Claim}
 use Rattle.protocol.specs.declared.Claim.TheVariants.{Free, Second, Owed}
 use Rattle.protocol.specs.declared.Outbound.{Outbound}
 use Rattle.protocol.specs.declared.Inbound.{Inbound}
-use Rattle.protocol.specs.declared.Delivered.TheVariants as delivered
-use Rattle.protocol.specs.declared.Offer.{Offer}
-use Rattle.protocol.specs.declared.Offer.TheVariants as offer
 use Rattle.protocol.specs.declared.Drive.{Drive}
 use Rattle.protocol.proofs.Delivery.MirrorKept.{ArrivesOne, Signalled, heard_sd, signalled_sd, signalled_on, Kept, late, kept_as}
 
 -- the unit whose DH is due, if one is: its DL has come, and BK stands off
 pub data Due (w : ℕ) (o : Outbound) (i : Inbound) : List ℕ → Type 0 where
-  none : o.due ≡ Empty → i.half ≡ Empty → Due w o i []
-  some : (u : ℕ) → u < 2 ^ w → u < 256 → 16 ≤ o.opening → o.due ≡ Holds (u / 16) → i.half ≡ Holds (u % 16) → i.standing.bk ≡ false → Due w o i (u ∷ [])
+  none : o.due ≡ None → i.half ≡ None → Due w o i []
+  some : (u : ℕ) → u < 2 ^ w → u < 256 → 16 ≤ o.opening → o.due ≡ Some (u / 16) → i.half ≡ Some (u % 16) → i.standing.bk ≡ false → Due w o i (u ∷ [])
 
 pub record Words (w : ℕ) (o : Outbound) (i : Inbound) (h : Shown) (pending : List ℕ) : Type 0 where
   pub signals : Signalled h i
@@ -45,7 +42,7 @@ agreed_off last now standing p q = rw (p, q)
 
 module _ (w : ℕ) (o : Outbound) (i : Inbound) (h : Shown) (g : Drive) (heard : ℕ) where
   -- an Sd goes, with nothing due
-  word_sd : (opening : ℕ) (c : Claim) (leads : Leads) → Words w o i h [] → o.due ≡ Empty → i.half ≡ Empty
+  word_sd : (opening : ℕ) (c : Claim) (leads : Leads) → Words w o i h [] → o.due ≡ None → i.half ≡ None
       → heard / 2 ≡ sd_byte leads g.flag / 2
       → Kept (Words w) late h [] (writes_sd (shape.Word w) o opening c leads g) (reading (shape.Word w) i heard) g.offer
   unfolding reading reads_word agreed_signals
@@ -65,12 +62,12 @@ module _ (w : ℕ) (o : Outbound) (i : Inbound) (h : Shown) (g : Drive) (heard :
       })
 
   -- a DL goes: a unit is taken
-  read_dl : (u : ℕ) → u < 256 → i.standing.bk ≡ false → heard / 2 ≡ dl_byte u / 2 → reading (shape.Word w) i heard ≡ reads i (Holds (u % 16)) 0 delivered.Nothing
+  read_dl : (u : ℕ) → u < 256 → i.standing.bk ≡ false → heard / 2 ≡ dl_byte u / 2 → reading (shape.Word w) i heard ≡ reads i (Some (u % 16)) 0 None
   unfolding reading reads_word
   read_dl u k off a = rw (b8_ignored heard (dl_byte u) a ∙ dl_read u k) (rw off refl)
 
-  word_dl : (u : ℕ) → u < 2 ^ w → u < 256 → g.offer ≡ offer.Unit u → 16 ≤ o.opening → o.last.bk ≡ false → o.before.bk ≡ false → Words w o i h [] → heard / 2 ≡ dl_byte u / 2
-      → Kept (Words w) late h [] (writes o o.opening (Holds (u / 16)) (Alone (dl_byte u)) true) (reading (shape.Word w) i heard) g.offer
+  word_dl : (u : ℕ) → u < 2 ^ w → u < 256 → g.offer ≡ Some u → 16 ≤ o.opening → o.last.bk ≡ false → o.before.bk ≡ false → Words w o i h [] → heard / 2 ≡ dl_byte u / 2
+      → Kept (Words w) late h [] (writes o o.opening (Some (u / 16)) (Alone (dl_byte u)) true) (reading (shape.Word w) i heard) g.offer
   word_dl u l k e past p q m a =
       rw (read_dl u k (m.off p q) a)
       (record {
@@ -78,7 +75,7 @@ module _ (w : ℕ) (o : Outbound) (i : Inbound) (h : Shown) (g : Drive) (heard :
         mirror =
             rw (dl_read u k)
             (record {
-              signals = signalled_on m.signals (Holds (u % 16)) 0 delivered.Nothing;
+              signals = signalled_on m.signals (Some (u % 16)) 0 None;
               last = m.last;
               off = m.off;
               unit = some u l k past refl refl (m.off p q);
@@ -88,8 +85,8 @@ module _ (w : ℕ) (o : Outbound) (i : Inbound) (h : Shown) (g : Drive) (heard :
       })
 
   -- the DH that was due goes
-  read_dh : (u : ℕ) → u < 2 ^ w → u < 256 → i.half ≡ Holds (u % 16) → i.standing.bk ≡ false → heard / 2 ≡ dh_byte (16 * (u / 16)) / 2
-      → reading (shape.Word w) i heard ≡ reads i Empty 0 (delivered.Unit u)
+  read_dh : (u : ℕ) → u < 2 ^ w → u < 256 → i.half ≡ Some (u % 16) → i.standing.bk ≡ false → heard / 2 ≡ dh_byte (16 * (u / 16)) / 2
+      → reading (shape.Word w) i heard ≡ reads i None 0 (Some u)
   unfolding reading reads_word word_of
   read_dh u l k e off a =
       let z : 16 * (u / 16) / 16 ≡ u / 16 = omega arith in
@@ -98,8 +95,8 @@ module _ (w : ℕ) (o : Outbound) (i : Inbound) (h : Shown) (g : Drive) (heard :
       let kind = b8_ignored heard (dh_byte (16 * (u / 16))) a ∙ dh_read (16 * (u / 16)) small in
       rw kind (rw (off, z, e, whole, mod-eq_of_lt l) refl)
 
-  word_dh : (u : ℕ) → u < 2 ^ w → u < 256 → i.half ≡ Holds (u % 16) → i.standing.bk ≡ false → Words w o i h (u ∷ []) → heard / 2 ≡ dh_byte (16 * (u / 16)) / 2
-      → Kept (Words w) late h (u ∷ []) (writes o o.opening Empty (Alone (dh_byte (16 * (u / 16)))) false) (reading (shape.Word w) i heard) g.offer
+  word_dh : (u : ℕ) → u < 2 ^ w → u < 256 → i.half ≡ Some (u % 16) → i.standing.bk ≡ false → Words w o i h (u ∷ []) → heard / 2 ≡ dh_byte (16 * (u / 16)) / 2
+      → Kept (Words w) late h (u ∷ []) (writes o o.opening None (Alone (dh_byte (16 * (u / 16)))) false) (reading (shape.Word w) i heard) g.offer
   word_dh u l k e off m a =
       let small : 16 * (u / 16) < 256 = omega arith in
       rw (read_dh u l k e off a)
@@ -108,7 +105,7 @@ module _ (w : ℕ) (o : Outbound) (i : Inbound) (h : Shown) (g : Drive) (heard :
         mirror =
             rw (dh_read (16 * (u / 16)) small)
             (record {
-              signals = signalled_on m.signals Empty 0 (delivered.Unit u);
+              signals = signalled_on m.signals None 0 (Some u);
               last = m.last;
               off = m.off;
               unit = none refl refl;
@@ -134,11 +131,11 @@ module _ (w : ℕ) (small : w ≤ 8) (i : Inbound) (h : Shown) (heard : ℕ) whe
 
   -- no DH is due, and the last two Sd had BK 0: an offered unit goes, or an Sd
   module _ (o : Outbound) (g : Drive) (p : o.last.bk ≡ false) (q : o.before.bk ≡ false) (past : 16 ≤ o.opening)
-      (allowed : (u : ℕ) → g.offer ≡ offer.Unit u → word_fits w u ≡ true) (r : o.due ≡ Empty) (t : i.half ≡ Empty) (m : Words w o i h []) where
-    word_offer : (f : Offer) → g.offer ≡ f → ArrivesOne (writes_word w o g f).sent heard
+      (allowed : (u : ℕ) → g.offer ≡ Some u → word_fits w u ≡ true) (r : o.due ≡ None) (t : i.half ≡ None) (m : Words w o i h []) where
+    word_offer : (f : Option ℕ) → g.offer ≡ f → ArrivesOne (writes_word w o g f).sent heard
         → Kept (Words w) late h [] (writes_word w o g f) (reading (shape.Word w) i heard) g.offer
-    word_offer offer.Nothing e a = word_sd w o i h g heard o.opening o.claim g.leads m r t a
-    word_offer (offer.Unit u) e a =
+    word_offer None e a = word_sd w o i h g heard o.opening o.claim g.leads m r t a
+    word_offer (Some u) e a =
         let b = below u (allowed u e) in word_dl w o i h g heard u b.0 b.1 e past p q m a
 
     word_claim : (c : Claim) → ArrivesOne (writes_claim (shape.Word w) o g c).sent heard
@@ -150,7 +147,7 @@ module _ (w : ℕ) (small : w ≤ 8) (i : Inbound) (h : Shown) (heard : ℕ) whe
         (λ x. ArrivesOne x.sent heard → Kept (Words w) late h [] x (reading (shape.Word w) i heard) g.offer)
         (changed g.leads o) (λ z. word_sd w o i h g heard o.opening (Second g.leads) g.leads m r t) (λ z. word_offer g.offer refl) a
 
-  word_due : (o : Outbound) (g : Drive) (pending : List ℕ) → 16 ≤ o.opening → ((u : ℕ) → g.offer ≡ offer.Unit u → word_fits w u ≡ true)
+  word_due : (o : Outbound) (g : Drive) (pending : List ℕ) → 16 ≤ o.opening → ((u : ℕ) → g.offer ≡ Some u → word_fits w u ≡ true)
       → Words w o i h pending → Due w o i pending
       → ArrivesOne (writes_due w o g o.due).sent heard → Kept (Words w) late h pending (writes_due w o g o.due) (reading (shape.Word w) i heard) g.offer
   word_due o g pending past allowed m (some u l k op e f off) a =
@@ -178,7 +175,7 @@ module _ (w : ℕ) (small : w ≤ 8) (i : Inbound) (h : Shown) (heard : ℕ) whe
   word_opening o g pending l m (none e f) a = word_sd w o i h g heard (o.opening + 1) Free g.leads m e f a
   word_opening o g pending l m (some u lu k op e f off) a = absurd (omega arith)
 
-  pub word_step : (o : Outbound) (g : Drive) (pending : List ℕ) → ((u : ℕ) → g.offer ≡ offer.Unit u → word_fits w u ≡ true) → Words w o i h pending
+  pub word_step : (o : Outbound) (g : Drive) (pending : List ℕ) → ((u : ℕ) → g.offer ≡ Some u → word_fits w u ≡ true) → Words w o i h pending
       → ArrivesOne (writing (shape.Word w) o g).sent heard → Kept (Words w) late h pending (writing (shape.Word w) o g) (reading (shape.Word w) i heard) g.offer
   word_step o g pending allowed m a = go (ltb o.opening 16) refl
     where

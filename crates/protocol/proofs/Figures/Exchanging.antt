@@ -1,5 +1,6 @@
 -- The sentences of "One slot" on the exchange as figures: Answering, Originating, Versions, Collecting and Clock, in that order and in those
 -- words. Each row is computed. Assumes nothing.
+use Rattle.std.specs.Prelude.{None}
 use mathlib.Core.Path.{◌≡◌, refl}
 use mathlib.Core.Bool.{true, false, cond}
 use mathlib.Core.List.{List, [], ◌∷◌, ◌++◌, map}
@@ -17,7 +18,6 @@ use Rattle.protocol.specs.declared.Sending.TheVariants.{Idle, Hail, Mask, Parame
 use Rattle.protocol.specs.declared.Phase.{Phase}
 use Rattle.protocol.specs.declared.Phase.TheVariants as phase
 use Rattle.protocol.specs.declared.Endpoint.{Endpoint}
-use Rattle.protocol.specs.declared.Offer.TheVariants as offer
 use Rattle.protocol.specs.declared.Drive.{Drive}
 use Rattle.protocol.specs.declared.Outcome.{Outcome}
 use Rattle.protocol.specs.declared.Outcome.TheVariants as outcome
@@ -65,7 +65,7 @@ other_parameters n = five_after n (group 0xF5 0x0D) (group 0xE5 0x1D) (group 0xD
 
 -- leads 1011, whose Sd is B3
 abbrev leading : Drive
-leading = drive_with (leads 1 0 1 1) false offer.Nothing
+leading = drive_with (leads 1 0 1 1) false None
 
 abbrev opens : ℕ → Entry → ℕ → Outcome
 opens version entry since = outcome.Open version entry since (signals 0 1 0 0 0)

@@ -1,5 +1,6 @@
 -- The worked figures of the joined pair, and the sample of a run, by computation. Of the runs to an end that opens one is here; the others are
 -- in `premises` (WholeRuns), where fewer must-fail edits prove them again. Assumes nothing.
+use Rattle.std.specs.Prelude.{None}
 use mathlib.Core.Path.{◌≡◌, refl}
 use mathlib.Core.Bool.{true, false}
 use mathlib.Core.List.{List, [], ◌∷◌, ◌++◌}
@@ -17,7 +18,6 @@ use Rattle.protocol.proofs.Computing.{computing}
 use Rattle.protocol.specs.declared.Awaited.{Awaited}
 use Rattle.protocol.specs.declared.Awaited.TheVariants.{Run, Group}
 use Rattle.protocol.specs.declared.Endpoint.{Endpoint}
-use Rattle.protocol.specs.declared.Offer.TheVariants as offer
 use Rattle.protocol.specs.declared.Outcome.{Outcome}
 use Rattle.protocol.specs.declared.Outcome.TheVariants.{Open, Refused}
 
@@ -64,7 +64,7 @@ awaits_after bytes = awaited_by (hears bytes (started (book_for answering 3 500)
 
 pub record PairFigures : Type 0 where
   -- each end is given leads 0100, no break and no unit
-  pub given : idle ≡ record { leads = record { s0 = false; s1 = false; s2 = true; s3 = false }; flag = false; offer = offer.Nothing }
+  pub given : idle ≡ record { leads = record { s0 = false; s1 = false; s2 = true; s3 = false }; flag = false; offer = None }
   -- both masks 3, limit 500, delay 1: O open 424, A open 423
   pub opens_424_423 : reports 425 (pair 3 3 500 1) ≡ opened 424 ∷ opened 423 ∷ []
   -- with masks 1 and 2: O refused 21 43, A refused 21 44

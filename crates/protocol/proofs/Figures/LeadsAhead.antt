@@ -1,5 +1,6 @@
 -- Leads ahead of data, as figures: what an open end sends in forms 0 and 6 after the first 16 Sd, rule by rule, the first that applies. Each
 -- row is computed. Assumes nothing.
+use Rattle.std.specs.Prelude.{Option, Some, None}
 use mathlib.Core.Path.{◌≡◌, refl}
 use mathlib.Core.Bool.{true, false}
 use mathlib.Core.List.{List, [], ◌∷◌, ◌++◌}
@@ -12,11 +13,8 @@ use Rattle.protocol.specs.Opened.{drive_with, outbound_of}
 use Rattle.protocol.specs.Sent.{Sent, Silence, Alone, Unit}
 use Rattle.protocol.specs.Carried.{Shown, shown_after}
 use Rattle.protocol.specs.declared.Signals.{Signals}
-use Rattle.protocol.specs.declared.Half.{Half}
-use Rattle.protocol.specs.declared.Half.TheVariants.{Empty, Holds}
 use Rattle.protocol.specs.declared.Claim.{Claim}
 use Rattle.protocol.specs.declared.Claim.TheVariants.{Free, Second, Owed}
-use Rattle.protocol.specs.declared.Offer.TheVariants as offer
 use Rattle.protocol.specs.declared.Drive.{Drive}
 use Rattle.protocol.proofs.Figures.Rows.{leads, signals, offers, Row, defined, written, row, sent, idle_got}
 use Rattle.protocol.proofs.Figures.Opening.{On, words, six, seven, eight, at, Sends, sends_each}
@@ -30,32 +28,32 @@ chatter = leads 1 0 1 1
 
 -- these leads are given and the unit 21 hex is offered, or nothing; or that under the flag
 abbrev offering : Leads → Drive
-offering l = drive_with l false (offer.Unit 0x21)
+offering l = drive_with l false (Some 0x21)
 
 abbrev quietly : Leads → Drive
-quietly l = drive_with l false offer.Nothing
+quietly l = drive_with l false None
 
 abbrev flagged : Leads → Drive
-flagged l = drive_with l true (offer.Unit 0x21)
+flagged l = drive_with l true (Some 0x21)
 
 -- the first 16 Sd have gone, a DH is due or none, someone has a claim on the line or nobody, and the last two Sd had these leads, the later first
-abbrev stands : On → Half → Claim → Leads → Leads → List Sends → Row
+abbrev stands : On → Option ℕ → Claim → Leads → Leads → List Sends → Row
 stands f due claim last before slots =
     row (at f (outbound_of 16 due claim (record { leads = last; bk = false }) (record { leads = before; bk = false })) idle_got) (sends_each f slots)
 
 -- nobody has a claim, and the last two Sd had the leads 0100
 abbrev settled : On → List Sends → Row
-settled f slots = stands f Empty Free (leads 0 1 0 0) (leads 0 1 0 0) slots
+settled f slots = stands f None Free (leads 0 1 0 0) (leads 0 1 0 0) slots
 
 -- one slot, with the leads 0100 given and a unit offered: it is taken at once, or an Sd goes first
 abbrev after : Leads → Leads → ℕ → Row
 after last before n =
-    stands six Empty Free last before (replicate n (offers 0x21, 0x43, false) ++ ((offers 0x21, 0x85, true) ∷ []))
+    stands six None Free last before (replicate n (offers 0x21, 0x43, false) ++ ((offers 0x21, 0x85, true) ∷ []))
 
 -- the opening: 16 Sd, with the leads given in the last three of them; then the unit 21 hex is taken after so many Sd more
 abbrev from_opening : Sends → Sends → Sends → ℕ → Row
 from_opening a b c n =
-    row (at six (sent 0 Empty 0 0) idle_got)
+    row (at six (sent 0 None 0 0) idle_got)
     (sends_each six
     (replicate 13 (offers 0x21, 0x43, false) ++ (a ∷ b ∷ c ∷ []) ++ replicate n (offers 0x21, 0x43, false) ++ ((offers 0x21, 0x85, true) ∷ [])))
 
@@ -82,8 +80,8 @@ in_six =
     ∷ after (leads 0 1 0 0) (leads 0 0 0 0) 2
     ∷ after (leads 0 1 0 0) (leads 0 1 1 0) 2
     ∷ after (leads 0 1 0 0) (leads 0 1 0 1) 2
-    ∷ stands six Empty Free (leads 0 1 1 0) (leads 0 1 1 0) ((offering (leads 0 1 1 0), 0x85, true) ∷ [])
-    ∷ stands six Empty Free (leads 0 1 0 1) (leads 0 1 0 1) ((offering (leads 0 1 0 1), 0x85, true) ∷ [])
+    ∷ stands six None Free (leads 0 1 1 0) (leads 0 1 1 0) ((offering (leads 0 1 1 0), 0x85, true) ∷ [])
+    ∷ stands six None Free (leads 0 1 0 1) (leads 0 1 0 1) ((offering (leads 0 1 0 1), 0x85, true) ∷ [])
     -- 4 holds whether or not a unit is offered, and so does 3
     ∷ settled six
     ((quietly ready, 0xC3, false)
@@ -104,7 +102,7 @@ in_six =
     ∷ (offering ready, 0x85, true)
     ∷ (offering ready, 0x85, true)
     ∷ [])
-    ∷ stands six Empty (Second ready) (leads 0 1 0 0) (leads 0 1 0 0) ((offers 0x21, 0xC3, false) ∷ (offers 0x21, 0x85, true) ∷ [])
+    ∷ stands six None (Second ready) (leads 0 1 0 0) (leads 0 1 0 0) ((offers 0x21, 0xC3, false) ∷ (offers 0x21, 0x85, true) ∷ [])
     -- 6: while a unit is owed and none is offered, each Sd has the leads of its own slot, and no second is due; the unit is owed still
     ∷ settled six
     ((quietly ready, 0xC3, false)
@@ -117,7 +115,7 @@ in_six =
     ∷ (offering chatter, 0x85, true)
     ∷ [])
     -- an idle slot's Sd counts: of the last two, both have the leads given
-    ∷ stands six Empty Owed (leads 1 1 0 0) (leads 1 1 0 0)
+    ∷ stands six None Owed (leads 1 1 0 0) (leads 1 1 0 0)
     ((quietly chatter, 0xB3, false)
     ∷ (quietly chatter, 0xB3, false)
     ∷ (offering chatter, 0x85, true)
@@ -129,7 +127,7 @@ in_six =
     ∷ from_opening (offers 0x21, 0x43, false) (offering chatter, 0xB3, false) (offers 0x21, 0x43, false) 2
     ∷ from_opening (offers 0x21, 0x43, false) (offers 0x21, 0x43, false) (offering chatter, 0xB3, false) 2
     -- leads that are given from a slot on wait 4 slots at most
-    ∷ stands six Empty (Second ready) (leads 0 1 0 0) (leads 0 1 0 0)
+    ∷ stands six None (Second ready) (leads 0 1 0 0) (leads 0 1 0 0)
     ((offering chatter, 0xC3, false) ∷ (offering chatter, 0x85, true) ∷ (offering chatter, 0xB3, false) ∷ (offering chatter, 0xB3, false) ∷ [])
     -- the flag is nothing to form 6
     ∷ settled six
@@ -151,10 +149,10 @@ in_words =
     ∷ (offering chatter, 0x15, true)
     ∷ [])
     -- 1: a DH due goes before the leads
-    ∷ stands (words 8) (Holds 0xA) Free (leads 0 1 0 0) (leads 0 1 0 0)
+    ∷ stands (words 8) (Some 0xA) Free (leads 0 1 0 0) (leads 0 1 0 0)
     ((offering ready, 0xAD, false) ∷ (offering ready, 0xC3, false) ∷ (offering ready, 0xC3, false) ∷ (offering ready, 0x15, true) ∷ [])
     -- 6 in form 0
-    ∷ stands (words 8) Empty Owed (leads 0 1 0 0) (leads 0 1 0 0)
+    ∷ stands (words 8) None Owed (leads 0 1 0 0) (leads 0 1 0 0)
     ((quietly ready, 0xC3, false)
     ∷ (offering ready, 0x15, true)
     ∷ (offering ready, 0x2D, false)
@@ -192,7 +190,7 @@ in_words =
     ∷ (offering chatter, 0x15, true)
     ∷ [])
     -- leads that are given from a slot on wait 6 slots at most, the last of the break rule being one of them
-    ∷ row (at (words 8) (outbound_of 16 Empty (Second ready) (signals 0 1 0 0 0) (signals 0 1 0 0 1)) idle_got)
+    ∷ row (at (words 8) (outbound_of 16 None (Second ready) (signals 0 1 0 0 0) (signals 0 1 0 0 1)) idle_got)
     (sends_each (words 8)
     ((offering chatter, 0xB3, false)
     ∷ (offering chatter, 0xC3, false)
@@ -202,7 +200,7 @@ in_words =
     ∷ (offering chatter, 0xB3, false)
     ∷ []))
     -- and after the two, the unit is still owed
-    ∷ stands (words 8) Empty Owed (leads 1 1 0 0) (leads 1 1 0 0)
+    ∷ stands (words 8) None Owed (leads 1 1 0 0) (leads 1 1 0 0)
     ((flagged chatter, 0xBB, false)
     ∷ (offers 0x21, 0x43, false)
     ∷ (offers 0x21, 0x43, false)
@@ -215,7 +213,7 @@ in_words =
 -- in forms 7 and 8 nothing changes: the leads given are nothing to an end whose first bytes have gone
 abbrev unclaimed : On → ℕ → Row
 unclaimed f byte =
-    row (at f (sent 18 Empty 0 0) idle_got)
+    row (at f (sent 18 None 0 0) idle_got)
     (sends_each f ((quietly ready, 0xFF, false) ∷ (offering chatter, byte, true) ∷ (offering ready, byte, true) ∷ (quietly chatter, 0xFF, false) ∷ []))
 
 abbrev in_streams : List Row

@@ -1,4 +1,5 @@
 -- The sentences of "One slot" on an open end as figures, in that order and in those words. Each row is computed. Assumes nothing.
+use Rattle.std.specs.Prelude.{Some, None}
 use mathlib.Core.Path.{◌≡◌, refl}
 use mathlib.Core.Bool.{Bool, true, false, cond, ◌||◌}
 use mathlib.Core.List.{List, [], ◌∷◌, ◌++◌, map}
@@ -9,12 +10,10 @@ use Rattle.book.specs.declared.Entry.{Entry}
 use Rattle.channel.specs.declared.byte.Leads.{Leads}
 use Rattle.protocol.proofs.Computing.{computing}
 use Rattle.protocol.specs.Opened.{drive_with}
-use Rattle.protocol.specs.declared.Half.TheVariants.{Empty, Holds}
 use Rattle.protocol.specs.declared.Signals.{Signals}
 use Rattle.protocol.specs.declared.Outbound.{Outbound}
 use Rattle.protocol.specs.declared.Inbound.{Inbound}
 use Rattle.protocol.specs.declared.Endpoint.{Endpoint}
-use Rattle.protocol.specs.declared.Offer.TheVariants as offer
 use Rattle.protocol.specs.declared.Drive.{Drive}
 use Rattle.protocol.proofs.Figures.Rows.{profile, book_of, leads, signals, nothing, offers, Slot, Row, defined, written, row, opened, sent, got, idle_got, open_slot}
 
@@ -50,13 +49,13 @@ idle = signals 0 1 0 0 0
 
 -- a unit is offered, under the flag or not
 abbrev breaks : Drive
-breaks = drive_with (leads 0 1 0 0) true offer.Nothing
+breaks = drive_with (leads 0 1 0 0) true None
 
 abbrev breaks_offering : ℕ → Drive
-breaks_offering u = drive_with (leads 0 1 0 0) true (offer.Unit u)
+breaks_offering u = drive_with (leads 0 1 0 0) true (Some u)
 
 abbrev leads_offering : Leads → ℕ → Drive
-leads_offering s u = drive_with s false (offer.Unit u)
+leads_offering s u = drive_with s false (Some u)
 
 -- this byte goes, and the unit offered is taken or not
 abbrev pub sends : On → Drive → ℕ → Bool → Slot
@@ -66,7 +65,7 @@ sends f given byte taken = open_slot f.version f.entry 0x43 given byte [] taken 
 -- last byte
 abbrev opening : On → List ℕ → ℕ → Row
 opening f pair byte =
-    row (at f (sent 0 Empty 0 0) idle_got)
+    row (at f (sent 0 None 0 0) idle_got)
     (replicate 13 (sends f (offers 1) 0x43 false)
     ++ (sends f (leads_offering (leads 1 0 1 1) 1) 0xB3 false ∷ [])
     ++ replicate 2 (sends f (offers 1) 0x43 false)
@@ -82,14 +81,14 @@ sends_each f slots = map (λ (s : Sends). sends f s.0 s.1 s.2) slots
 
 -- so many of the first bytes have gone
 abbrev gone : On → ℕ → List Sends → Row
-gone f n slots = row (at f (sent n Empty 0 0) idle_got) (sends_each f slots)
+gone f n slots = row (at f (sent n None 0 0) idle_got) (sends_each f slots)
 
 -- words of 8 bits: the last Sd and the one before it had BK on or off; and so, but the DH of a nibble A is due
 abbrev bks : ℕ → ℕ → List Sends → Row
-bks bk1 bk2 slots = row (at (words 8) (sent 16 Empty bk1 bk2) idle_got) (sends_each (words 8) slots)
+bks bk1 bk2 slots = row (at (words 8) (sent 16 None bk1 bk2) idle_got) (sends_each (words 8) slots)
 
 abbrev owes : ℕ → ℕ → List Sends → Row
-owes bk1 bk2 slots = row (at (words 8) (sent 16 (Holds 0xA) bk1 bk2) idle_got) (sends_each (words 8) slots)
+owes bk1 bk2 slots = row (at (words 8) (sent 16 (Some 0xA) bk1 bk2) idle_got) (sends_each (words 8) slots)
 
 abbrev sending : List Row
 sending =
@@ -156,28 +155,28 @@ comes f heard units shown = open_slot f.version f.entry heard nothing (goes f) u
 -- these bytes come in this state, and beside each stand the units delivered and the signals after it
 abbrev hearing : On → Inbound → List (ℕ × List ℕ × Signals) → Row
 hearing f i slots =
-    row (at f (sent (first_bytes f) Empty 0 0) i) (map (λ (s : ℕ × List ℕ × Signals). comes f s.0 s.1 s.2) slots)
+    row (at f (sent (first_bytes f) None 0 0) i) (map (λ (s : ℕ × List ℕ × Signals). comes f s.0 s.1 s.2) slots)
 
 -- these bytes come and nothing is delivered; then the last byte, which delivers these units; the signals stay as after two Sdidle
 abbrev reads : On → Inbound → List ℕ → ℕ → List ℕ → Row
 reads f i quiet last units =
-    row (at f (sent (first_bytes f) Empty 0 0) i) (map (λ b. comes f b [] idle) quiet ++ (comes f last units idle ∷ []))
+    row (at f (sent (first_bytes f) None 0 0) i) (map (λ b. comes f b [] idle) quiet ++ (comes f last units idle ∷ []))
 
 -- these Sd come one by one, and beside each stand the signals after it
 abbrev shows : On → List (ℕ × Signals) → Row
-shows f sds = row (at f (sent (first_bytes f) Empty 0 0) idle_got) (map (λ (s : ℕ × Signals). comes f s.0 [] s.1) sds)
+shows f sds = row (at f (sent (first_bytes f) None 0 0) idle_got) (map (λ (s : ℕ × Signals). comes f s.0 [] s.1) sds)
 
 -- the pair has come
 abbrev paired : Inbound
-paired = got Empty 2 (signals 0 1 0 0 0) (signals 0 1 0 0 0)
+paired = got None 2 (signals 0 1 0 0 0) (signals 0 1 0 0 0)
 
 -- this BK was in the last Sd, and this one stands
 abbrev standing : ℕ → ℕ → Inbound
-standing last stands = got Empty 0 (signals 0 1 0 0 last) (signals 0 1 0 0 stands)
+standing last stands = got None 0 (signals 0 1 0 0 last) (signals 0 1 0 0 stands)
 
 -- form 0 with BK standing: the bytes come, nothing is delivered, and these signals are shown
 abbrev ignores : Inbound → List ℕ → Signals → Row
-ignores i bytes shown = row (at (words 8) (sent 16 Empty 0 0) i) (map (λ b. comes (words 8) b [] shown) bytes)
+ignores i bytes shown = row (at (words 8) (sent 16 None 0 0) i) (map (λ b. comes (words 8) b [] shown) bytes)
 
 abbrev receiving : List Row
 receiving =
@@ -191,7 +190,7 @@ receiving =
     ∷ reads (words 8) idle_got (0x55 ∷ 0x7F ∷ []) 0xAD []
     ∷ reads (words 8) idle_got (0x15 ∷ 0x55 ∷ []) 0xAD (0xA5 ∷ [])
     ∷ reads (words 8) idle_got [] 0xAD []
-    ∷ hearing (words 8) (got (Holds 0x5) 0 idle idle) ((0xAD, 0xA5 ∷ [], idle) ∷ (0xAD, [], idle) ∷ [])
+    ∷ hearing (words 8) (got (Some 0x5) 0 idle idle) ((0xAD, 0xA5 ∷ [], idle) ∷ (0xAD, [], idle) ∷ [])
     -- word of w bits, received value taken modulo 2^w
     ∷ reads (words 5) idle_got (0xF5 ∷ []) 0xFD (0x1F ∷ [])
     ∷ reads (words 6) idle_got (0xF5 ∷ []) 0xFD (0x3F ∷ [])
@@ -286,7 +285,7 @@ receiving =
     ∷ [])
     -- While BK stands on in form 0, data is ignored: one Sd with BK on is not enough, nor one with BK off.
     ∷ ignores (standing 1 1) (0x55 ∷ 0xAD ∷ []) (signals 0 1 0 0 1)
-    ∷ ignores (got (Holds 0x5) 0 (signals 0 1 0 0 1) (signals 0 1 0 0 1)) (0xAD ∷ []) (signals 0 1 0 0 1)
+    ∷ ignores (got (Some 0x5) 0 (signals 0 1 0 0 1) (signals 0 1 0 0 1)) (0xAD ∷ []) (signals 0 1 0 0 1)
     ∷ ignores (standing 0 1) (0x55 ∷ 0xAD ∷ []) (signals 0 1 0 0 1)
     ∷ reads (words 8) (standing 1 0) (0x55 ∷ []) 0xAD (0xA5 ∷ [])
     ∷ hearing (words 8) idle_got

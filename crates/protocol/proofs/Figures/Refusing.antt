@@ -1,5 +1,6 @@
 -- "Numbers of refusal", 12 and 13, as figures, and each range of docs/RANGES.md: a state at its edge that is well formed and one past it that
 -- 13 refuses. Each row is computed. Assumes nothing.
+use Rattle.std.specs.Prelude.{Option, Some, None, Ok, Err}
 use mathlib.Core.Path.{◌≡◌, refl}
 use mathlib.Core.Bool.{true, false}
 use mathlib.Core.List.{List, [], ◌∷◌, map}
@@ -11,24 +12,20 @@ use Rattle.book.specs.Book.{no_entry, book_with}
 use Rattle.channel.specs.declared.unit.Form.TheVariants.{Six}
 use Rattle.protocol.specs.Sent.{Silence, Unit}
 use Rattle.protocol.specs.Opened.{outbound_of}
-use Rattle.protocol.specs.Slot.{started, step, slot_step, slot_of, refuses}
+use Rattle.protocol.specs.Slot.{started, step, slot_step, slot_of, refuses, Reply, refusal_number}
 use Rattle.protocol.proofs.Computing.{computing}
 use Rattle.protocol.specs.declared.Awaited.{Awaited}
 use Rattle.protocol.specs.declared.Awaited.TheVariants.{Run, Group, Nothing}
 use Rattle.protocol.specs.declared.Sending.{Sending}
 use Rattle.protocol.specs.declared.Sending.TheVariants.{Idle, Hail, Mask, Parameters, Done}
-use Rattle.protocol.specs.declared.Half.{Half}
-use Rattle.protocol.specs.declared.Half.TheVariants.{Empty, Holds}
 use Rattle.protocol.specs.declared.Claim.{Claim}
 use Rattle.protocol.specs.declared.Claim.TheVariants.{Free, Second, Owed}
 use Rattle.protocol.specs.declared.Outbound.{Outbound}
 use Rattle.protocol.specs.declared.Inbound.{Inbound}
 use Rattle.protocol.specs.declared.Phase.TheVariants as phase
 use Rattle.protocol.specs.declared.Endpoint.{Endpoint}
-use Rattle.protocol.specs.declared.Delivered.TheVariants as delivered
 use Rattle.protocol.specs.declared.Outcome.TheVariants as outcome
-use Rattle.protocol.specs.declared.Reply.{Reply}
-use Rattle.protocol.specs.declared.Reply.TheVariants as reply
+use Rattle.protocol.specs.declared.SlotRefusal.TheVariants.{UnitOutOfRange, OutsideRanges}
 use Rattle.protocol.proofs.Figures.Rows.{profile, book_of, leads, signals, nothing, offers, Slot, Row, defined, written, row, passes, exchanging, six, opened, sent, got, idle_got, open_slot}
 
 -- Open ends of each form, the first bytes having gone.
@@ -37,17 +34,17 @@ abbrev book_on : ℕ → Entry → Book
 book_on mask e = book_of 1 mask 500 (e ∷ [])
 
 abbrev words : ℕ → Endpoint
-words w = opened (book_on 3 (profile 0 w)) 2 (sent 16 Empty 0 0) idle_got
+words w = opened (book_on 3 (profile 0 w)) 2 (sent 16 None 0 0) idle_got
 
 abbrev units : ℕ → ℕ → ℕ → Endpoint
-units form version n = opened (book_on 3 (profile form 0)) version (sent n Empty 0 0) idle_got
+units form version n = opened (book_on 3 (profile form 0)) version (sent n None 0 0) idle_got
 
 abbrev eight : Endpoint
-eight = opened (book_on 2 (profile 8 0)) 2 (sent 18 Empty 0 0) idle_got
+eight = opened (book_on 2 (profile 8 0)) 2 (sent 18 None 0 0) idle_got
 
 -- a slot in which the end hears Sdidle and is offered a unit
 abbrev refused : ℕ → Slot
-refused unit = record { heard = 0x43; given = offers unit; reply = reply.Refused 12 }
+refused unit = record { heard = 0x43; given = offers unit; reply = Err UnitOutOfRange }
 
 abbrev taken : ℕ → Entry → ℕ → ℕ → Slot
 taken version e unit byte = open_slot version e 0x43 (offers unit) byte [] true (signals 0 1 0 0 0)
@@ -90,17 +87,17 @@ twelve_holds = refl
 
 -- 12 and 13 give back the state as it came; 13 is tested first.
 abbrev bad_open : Endpoint
-bad_open = opened (book_on 3 (profile 6 0)) 2 (sent 17 Empty 0 0) idle_got
+bad_open = opened (book_on 3 (profile 6 0)) 2 (sent 17 None 0 0) idle_got
 
 pub record GivenBack : Type 0 where
-  pub twelve : slot_of (units 6 2 16) 0x85 (offers 64) ≡ refuses (units 6 2 16) 12
-  pub thirteen : slot_of bad_open 0x85 (offers 63) ≡ refuses bad_open 13
-  pub both : slot_of bad_open 0x85 (offers 64) ≡ refuses bad_open 13
+  pub twelve : slot_of (units 6 2 16) 0x85 (offers 64) ≡ refuses (units 6 2 16) UnitOutOfRange
+  pub thirteen : slot_of bad_open 0x85 (offers 63) ≡ refuses bad_open OutsideRanges
+  pub both : slot_of bad_open 0x85 (offers 64) ≡ refuses bad_open OutsideRanges
   -- nothing is sent, delivered or taken in such a slot, and in another what the slot says
   pub silent12 : slot_step (units 6 2 16) 0x85 (offers 64) ≡ step (units 6 2 16) Silence
   pub silent13 : slot_step bad_open 0x85 (offers 63) ≡ step bad_open Silence
   pub sends : (slot_step (units 6 2 16) 0x85 (offers 63)).sent ≡ Unit Six 63
-  pub delivers : (slot_step (units 6 2 16) 0x85 (offers 63)).delivered ≡ delivered.Unit 0x21
+  pub delivers : (slot_step (units 6 2 16) 0x85 (offers 63)).delivered ≡ Some 0x21
   pub takes : (slot_step (units 6 2 16) 0x85 (offers 63)).taken ≡ true
 
 given_back : GivenBack
@@ -120,8 +117,8 @@ given_back =
 -- 13: the number of the reply to each state, 0 where it passes.
 
 abbrev number_of : Reply → ℕ
-number_of (reply.Refused number) = number
-number_of (reply.Passed sent delivered taken stands) = 0
+number_of (Err refusal) = refusal_number refusal
+number_of (Ok passed) = 0
 
 abbrev Ranged : Type 0
 Ranged = List (Endpoint × ℕ)
@@ -304,81 +301,81 @@ abbrev on_form : ℕ → ℕ → Outbound → Inbound → Endpoint
 on_form form w o i = open_since (book_on 2 (profile form w)) 300 2 0 [] o i
 
 -- so many of the first bytes have gone, a DH is due or none, and someone has a claim on the line
-abbrev claimed : ℕ → Half → Claim → Outbound
+abbrev claimed : ℕ → Option ℕ → Claim → Outbound
 claimed opening due c = outbound_of opening due c (signals 0 1 0 0 0) (signals 0 1 0 0 0)
 
 abbrev opens : Ranged
 opens =
     -- the slot of opening below L; the version a bit of the mask; the entry below n; nibbles 0; values any
-    (open_since (book_on 3 (profile 6 0)) 499 2 0 [] (sent 16 Empty 0 0) idle_got, 0)
-    ∷ (open_since (book_on 3 (profile 6 0)) 500 2 0 [] (sent 16 Empty 0 0) idle_got, 13)
-    ∷ (open_since (book_on 3 (profile 6 0)) 300 1 0 [] (sent 16 Empty 0 0) idle_got, 0)
-    ∷ (open_since (book_on 3 (profile 6 0)) 300 3 0 [] (sent 16 Empty 0 0) idle_got, 13)
-    ∷ (open_since (book_on 3 (profile 6 0)) 300 0 0 [] (sent 16 Empty 0 0) idle_got, 13)
-    ∷ (open_since (book_on 1 (profile 6 0)) 300 2 0 [] (sent 16 Empty 0 0) idle_got, 13)
-    ∷ (open_since (book_of 1 3 500 (profile 7 0 ∷ numbered 1 ∷ [])) 300 2 1 [] (sent 16 Empty 0 0) idle_got, 0)
-    ∷ (open_since (book_on 3 (profile 6 0)) 300 2 1 [] (sent 16 Empty 0 0) idle_got, 13)
-    ∷ (open_since (book_on 3 (profile 6 0)) 300 2 0 (1 ∷ []) (sent 16 Empty 0 0) idle_got, 13)
+    (open_since (book_on 3 (profile 6 0)) 499 2 0 [] (sent 16 None 0 0) idle_got, 0)
+    ∷ (open_since (book_on 3 (profile 6 0)) 500 2 0 [] (sent 16 None 0 0) idle_got, 13)
+    ∷ (open_since (book_on 3 (profile 6 0)) 300 1 0 [] (sent 16 None 0 0) idle_got, 0)
+    ∷ (open_since (book_on 3 (profile 6 0)) 300 3 0 [] (sent 16 None 0 0) idle_got, 13)
+    ∷ (open_since (book_on 3 (profile 6 0)) 300 0 0 [] (sent 16 None 0 0) idle_got, 13)
+    ∷ (open_since (book_on 1 (profile 6 0)) 300 2 0 [] (sent 16 None 0 0) idle_got, 13)
+    ∷ (open_since (book_of 1 3 500 (profile 7 0 ∷ numbered 1 ∷ [])) 300 2 1 [] (sent 16 None 0 0) idle_got, 0)
+    ∷ (open_since (book_on 3 (profile 6 0)) 300 2 1 [] (sent 16 None 0 0) idle_got, 13)
+    ∷ (open_since (book_on 3 (profile 6 0)) 300 2 0 (1 ∷ []) (sent 16 None 0 0) idle_got, 13)
     -- no open state has form 8 on version 1, of either role, and in whichever entry
-    ∷ (open_since (book_on 3 (profile 8 0)) 300 2 0 [] (sent 16 Empty 0 0) idle_got, 0)
-    ∷ (open_since (book_on 3 (profile 8 0)) 300 1 0 [] (sent 16 Empty 0 0) idle_got, 13)
-    ∷ (open_since (book_on 3 (profile 7 0)) 300 1 0 [] (sent 16 Empty 0 0) idle_got, 0)
-    ∷ (open_since (book_of 0 3 500 (profile 8 0 ∷ [])) 300 2 0 [] (sent 16 Empty 0 0) idle_got, 0)
-    ∷ (open_since (book_of 0 3 500 (profile 8 0 ∷ [])) 300 1 0 [] (sent 16 Empty 0 0) idle_got, 13)
-    ∷ (open_since (book_of 1 3 500 (numbered 1 ∷ profile 8 0 ∷ [])) 300 1 0 [] (sent 16 Empty 0 0) idle_got, 0)
-    ∷ (open_since (book_of 1 3 500 (numbered 1 ∷ profile 8 0 ∷ [])) 300 1 1 [] (sent 16 Empty 0 0) idle_got, 13)
-    ∷ (open_since (book_of 1 3 500 (numbered 1 ∷ profile 8 0 ∷ [])) 300 2 1 [] (sent 16 Empty 0 0) idle_got, 0)
+    ∷ (open_since (book_on 3 (profile 8 0)) 300 2 0 [] (sent 16 None 0 0) idle_got, 0)
+    ∷ (open_since (book_on 3 (profile 8 0)) 300 1 0 [] (sent 16 None 0 0) idle_got, 13)
+    ∷ (open_since (book_on 3 (profile 7 0)) 300 1 0 [] (sent 16 None 0 0) idle_got, 0)
+    ∷ (open_since (book_of 0 3 500 (profile 8 0 ∷ [])) 300 2 0 [] (sent 16 None 0 0) idle_got, 0)
+    ∷ (open_since (book_of 0 3 500 (profile 8 0 ∷ [])) 300 1 0 [] (sent 16 None 0 0) idle_got, 13)
+    ∷ (open_since (book_of 1 3 500 (numbered 1 ∷ profile 8 0 ∷ [])) 300 1 0 [] (sent 16 None 0 0) idle_got, 0)
+    ∷ (open_since (book_of 1 3 500 (numbered 1 ∷ profile 8 0 ∷ [])) 300 1 1 [] (sent 16 None 0 0) idle_got, 13)
+    ∷ (open_since (book_of 1 3 500 (numbered 1 ∷ profile 8 0 ∷ [])) 300 2 1 [] (sent 16 None 0 0) idle_got, 0)
     -- first bytes sent: at most 16, in forms 7 and 8 at most 18
-    ∷ (on_form 0 8 (sent 16 Empty 0 0) idle_got, 0)
-    ∷ (on_form 0 8 (sent 17 Empty 0 0) idle_got, 13)
-    ∷ (on_form 6 0 (sent 17 Empty 0 0) idle_got, 13)
-    ∷ (on_form 7 0 (sent 18 Empty 0 0) idle_got, 0)
-    ∷ (on_form 7 0 (sent 19 Empty 0 0) idle_got, 13)
-    ∷ (on_form 8 0 (sent 18 Empty 0 0) idle_got, 0)
-    ∷ (on_form 8 0 (sent 19 Empty 0 0) idle_got, 13)
+    ∷ (on_form 0 8 (sent 16 None 0 0) idle_got, 0)
+    ∷ (on_form 0 8 (sent 17 None 0 0) idle_got, 13)
+    ∷ (on_form 6 0 (sent 17 None 0 0) idle_got, 13)
+    ∷ (on_form 7 0 (sent 18 None 0 0) idle_got, 0)
+    ∷ (on_form 7 0 (sent 19 None 0 0) idle_got, 13)
+    ∷ (on_form 8 0 (sent 18 None 0 0) idle_got, 0)
+    ∷ (on_form 8 0 (sent 19 None 0 0) idle_got, 13)
     -- high nibble due: in form 0 alone, after the 16 Sd, of a word of w bits
-    ∷ (on_form 0 8 (sent 16 (Holds 15) 0 0) idle_got, 0)
-    ∷ (on_form 0 8 (sent 16 (Holds 16) 0 0) idle_got, 13)
-    ∷ (on_form 0 8 (sent 15 (Holds 15) 0 0) idle_got, 13)
-    ∷ (on_form 0 5 (sent 16 (Holds 1) 0 0) idle_got, 0)
-    ∷ (on_form 0 5 (sent 16 (Holds 2) 0 0) idle_got, 13)
-    ∷ (on_form 6 0 (sent 16 (Holds 0) 0 0) idle_got, 13)
-    ∷ (on_form 7 0 (sent 18 (Holds 0) 0 0) idle_got, 13)
+    ∷ (on_form 0 8 (sent 16 (Some 15) 0 0) idle_got, 0)
+    ∷ (on_form 0 8 (sent 16 (Some 16) 0 0) idle_got, 13)
+    ∷ (on_form 0 8 (sent 15 (Some 15) 0 0) idle_got, 13)
+    ∷ (on_form 0 5 (sent 16 (Some 1) 0 0) idle_got, 0)
+    ∷ (on_form 0 5 (sent 16 (Some 2) 0 0) idle_got, 13)
+    ∷ (on_form 6 0 (sent 16 (Some 0) 0 0) idle_got, 13)
+    ∷ (on_form 7 0 (sent 18 (Some 0) 0 0) idle_got, 13)
     -- BK of the last two Sd sent off, but in form 0
-    ∷ (on_form 0 8 (sent 16 Empty 1 1) idle_got, 0)
-    ∷ (on_form 6 0 (sent 16 Empty 1 0) idle_got, 13)
-    ∷ (on_form 6 0 (sent 16 Empty 0 1) idle_got, 13)
-    ∷ (on_form 8 0 (sent 16 Empty 1 0) idle_got, 13)
+    ∷ (on_form 0 8 (sent 16 None 1 1) idle_got, 0)
+    ∷ (on_form 6 0 (sent 16 None 1 0) idle_got, 13)
+    ∷ (on_form 6 0 (sent 16 None 0 1) idle_got, 13)
+    ∷ (on_form 8 0 (sent 16 None 1 0) idle_got, 13)
     -- their leads any
-    ∷ (on_form 6 0 (outbound_of 16 Empty Free (signals 1 1 1 1 0) (signals 0 0 0 0 0)) idle_got, 0)
-    ∷ (on_form 8 0 (outbound_of 0 Empty Free (signals 0 0 0 0 0) (signals 1 1 1 1 0)) idle_got, 0)
+    ∷ (on_form 6 0 (outbound_of 16 None Free (signals 1 1 1 1 0) (signals 0 0 0 0 0)) idle_got, 0)
+    ∷ (on_form 8 0 (outbound_of 0 None Free (signals 0 0 0 0 0) (signals 1 1 1 1 0)) idle_got, 0)
     -- a second Sd due, with any leads, or a unit owed the line: in forms 0 and 6 alone, after the 16 Sd, while no DH is due
-    ∷ (on_form 0 8 (claimed 16 Empty (Second (leads 1 1 1 1))) idle_got, 0)
-    ∷ (on_form 0 8 (claimed 15 Empty (Second (leads 1 1 1 1))) idle_got, 13)
-    ∷ (on_form 0 8 (claimed 16 (Holds 0) (Second (leads 1 1 1 1))) idle_got, 13)
-    ∷ (on_form 0 8 (claimed 16 Empty Owed) idle_got, 0)
-    ∷ (on_form 0 8 (claimed 15 Empty Owed) idle_got, 13)
-    ∷ (on_form 0 8 (claimed 16 (Holds 0) Owed) idle_got, 13)
-    ∷ (on_form 6 0 (claimed 16 Empty (Second (leads 0 0 0 0))) idle_got, 0)
-    ∷ (on_form 6 0 (claimed 15 Empty (Second (leads 0 0 0 0))) idle_got, 13)
-    ∷ (on_form 6 0 (claimed 16 Empty Owed) idle_got, 0)
-    ∷ (on_form 6 0 (claimed 15 Empty Owed) idle_got, 13)
-    ∷ (on_form 7 0 (claimed 18 Empty Free) idle_got, 0)
-    ∷ (on_form 7 0 (claimed 18 Empty (Second (leads 0 1 0 0))) idle_got, 13)
-    ∷ (on_form 7 0 (claimed 18 Empty Owed) idle_got, 13)
-    ∷ (on_form 8 0 (claimed 16 Empty (Second (leads 0 1 0 0))) idle_got, 13)
-    ∷ (on_form 8 0 (claimed 18 Empty Owed) idle_got, 13)
+    ∷ (on_form 0 8 (claimed 16 None (Second (leads 1 1 1 1))) idle_got, 0)
+    ∷ (on_form 0 8 (claimed 15 None (Second (leads 1 1 1 1))) idle_got, 13)
+    ∷ (on_form 0 8 (claimed 16 (Some 0) (Second (leads 1 1 1 1))) idle_got, 13)
+    ∷ (on_form 0 8 (claimed 16 None Owed) idle_got, 0)
+    ∷ (on_form 0 8 (claimed 15 None Owed) idle_got, 13)
+    ∷ (on_form 0 8 (claimed 16 (Some 0) Owed) idle_got, 13)
+    ∷ (on_form 6 0 (claimed 16 None (Second (leads 0 0 0 0))) idle_got, 0)
+    ∷ (on_form 6 0 (claimed 15 None (Second (leads 0 0 0 0))) idle_got, 13)
+    ∷ (on_form 6 0 (claimed 16 None Owed) idle_got, 0)
+    ∷ (on_form 6 0 (claimed 15 None Owed) idle_got, 13)
+    ∷ (on_form 7 0 (claimed 18 None Free) idle_got, 0)
+    ∷ (on_form 7 0 (claimed 18 None (Second (leads 0 1 0 0))) idle_got, 13)
+    ∷ (on_form 7 0 (claimed 18 None Owed) idle_got, 13)
+    ∷ (on_form 8 0 (claimed 16 None (Second (leads 0 1 0 0))) idle_got, 13)
+    ∷ (on_form 8 0 (claimed 18 None Owed) idle_got, 13)
     -- low nibble received in form 0 alone, below 16
-    ∷ (on_form 0 8 (sent 16 Empty 0 0) (got (Holds 15) 0 (signals 0 0 0 0 0) (signals 1 1 1 1 1)), 0)
-    ∷ (on_form 0 8 (sent 16 Empty 0 0) (got (Holds 16) 0 (signals 0 1 0 0 0) (signals 0 1 0 0 0)), 13)
-    ∷ (on_form 6 0 (sent 16 Empty 0 0) (got (Holds 0) 0 (signals 0 1 0 0 0) (signals 0 1 0 0 0)), 13)
-    ∷ (on_form 7 0 (sent 18 Empty 0 0) (got (Holds 0) 0 (signals 0 1 0 0 0) (signals 0 1 0 0 0)), 13)
+    ∷ (on_form 0 8 (sent 16 None 0 0) (got (Some 15) 0 (signals 0 0 0 0 0) (signals 1 1 1 1 1)), 0)
+    ∷ (on_form 0 8 (sent 16 None 0 0) (got (Some 16) 0 (signals 0 1 0 0 0) (signals 0 1 0 0 0)), 13)
+    ∷ (on_form 6 0 (sent 16 None 0 0) (got (Some 0) 0 (signals 0 1 0 0 0) (signals 0 1 0 0 0)), 13)
+    ∷ (on_form 7 0 (sent 18 None 0 0) (got (Some 0) 0 (signals 0 1 0 0 0) (signals 0 1 0 0 0)), 13)
     -- pair received 0 to 2, in forms 7 and 8 alone, else 0
-    ∷ (on_form 7 0 (sent 18 Empty 0 0) (got Empty 2 (signals 1 1 1 1 1) (signals 0 0 0 0 0)), 0)
-    ∷ (on_form 7 0 (sent 18 Empty 0 0) (got Empty 3 (signals 0 1 0 0 0) (signals 0 1 0 0 0)), 13)
-    ∷ (on_form 8 0 (sent 18 Empty 0 0) (got Empty 3 (signals 0 1 0 0 0) (signals 0 1 0 0 0)), 13)
-    ∷ (on_form 6 0 (sent 16 Empty 0 0) (got Empty 1 (signals 0 1 0 0 0) (signals 0 1 0 0 0)), 13)
-    ∷ (on_form 0 8 (sent 16 Empty 0 0) (got Empty 1 (signals 0 1 0 0 0) (signals 0 1 0 0 0)), 13)
+    ∷ (on_form 7 0 (sent 18 None 0 0) (got None 2 (signals 1 1 1 1 1) (signals 0 0 0 0 0)), 0)
+    ∷ (on_form 7 0 (sent 18 None 0 0) (got None 3 (signals 0 1 0 0 0) (signals 0 1 0 0 0)), 13)
+    ∷ (on_form 8 0 (sent 18 None 0 0) (got None 3 (signals 0 1 0 0 0) (signals 0 1 0 0 0)), 13)
+    ∷ (on_form 6 0 (sent 16 None 0 0) (got None 1 (signals 0 1 0 0 0) (signals 0 1 0 0 0)), 13)
+    ∷ (on_form 0 8 (sent 16 None 0 0) (got None 1 (signals 0 1 0 0 0) (signals 0 1 0 0 0)), 13)
     ∷ []
 
 -- Refused.

@@ -1,5 +1,6 @@
 -- How a figure is written and run: an end, then slot by slot what it hears and is given, and beside it what document 01 says of that slot.
 -- Assumes nothing.
+use Rattle.std.specs.Prelude.{Option, Some, None}
 use mathlib.Core.Bool.{Bool, false}
 use mathlib.Core.List.{List, [], ◌∷◌, ◌++◌, map}
 use Prim.Native.Nat.{ℕ, ◌-◌}
@@ -10,26 +11,19 @@ use Rattle.book.specs.declared.Book.{Book}
 use Rattle.book.specs.Book.{no_entry, book_with}
 use Rattle.channel.specs.Bytes.{byte}
 use Rattle.channel.specs.declared.byte.Leads.{Leads}
-use Rattle.protocol.specs.Slot.{slot_of}
+use Rattle.protocol.specs.Slot.{slot_of, Reply, passed_with}
 use Rattle.protocol.specs.Opened.{drive_with, outbound_of, inbound_of}
 use Rattle.protocol.specs.declared.Awaited.{Awaited}
 use Rattle.protocol.specs.declared.Sending.{Sending}
-use Rattle.protocol.specs.declared.Half.{Half}
-use Rattle.protocol.specs.declared.Half.TheVariants.{Empty}
 use Rattle.protocol.specs.declared.Signals.{Signals}
 use Rattle.protocol.specs.declared.Claim.TheVariants.{Free}
 use Rattle.protocol.specs.declared.Outbound.{Outbound}
 use Rattle.protocol.specs.declared.Inbound.{Inbound}
 use Rattle.protocol.specs.declared.Phase.TheVariants as phase
 use Rattle.protocol.specs.declared.Endpoint.{Endpoint}
-use Rattle.protocol.specs.declared.Offer.TheVariants as offer
 use Rattle.protocol.specs.declared.Drive.{Drive}
-use Rattle.protocol.specs.declared.Delivered.{Delivered}
-use Rattle.protocol.specs.declared.Delivered.TheVariants as delivered
 use Rattle.protocol.specs.declared.Outcome.{Outcome}
 use Rattle.protocol.specs.declared.Outcome.TheVariants as outcome
-use Rattle.protocol.specs.declared.Reply.{Reply}
-use Rattle.protocol.specs.declared.Reply.TheVariants as reply
 
 -- Books.
 
@@ -53,10 +47,10 @@ signals s3 s2 s1 s0 bk = record { leads = leads s3 s2 s1 s0; bk = on bk }
 
 -- leads 0100, the flag off, no unit offered
 abbrev pub nothing : Drive
-nothing = drive_with (leads 0 1 0 0) false offer.Nothing
+nothing = drive_with (leads 0 1 0 0) false None
 
 abbrev pub offers : ℕ → Drive
-offers u = drive_with (leads 0 1 0 0) false (offer.Unit u)
+offers u = drive_with (leads 0 1 0 0) false (Some u)
 
 -- A slot: the byte heard and what is given, and the reply.
 pub record Slot : Type 0 where
@@ -88,15 +82,15 @@ written rows = map (λ (r : Row). map (λ (s : Slot). s.reply) r.slots) rows
 
 abbrev pub passes : ℕ → Drive → ℕ → Outcome → Slot
 passes heard given sent stands =
-    record { heard = heard; given = given; reply = reply.Passed (byte sent) delivered.Nothing false stands }
+    record { heard = heard; given = given; reply = passed_with (byte sent) None false stands }
 
 -- a slot that hears a byte and sends one, and after which the end is still in the exchange
 abbrev pub slot : ℕ → ℕ → Slot
 slot heard sent = passes heard nothing sent outcome.Exchanging
 
--- no slot is so: none is refused under 0
+-- no slot is so: none sends 256
 abbrev pub never : Slot
-never = record { heard = 0; given = nothing; reply = reply.Refused 0 }
+never = passes 0 nothing 256 outcome.Exchanging
 
 -- slots that hear these bytes and send these, as many
 abbrev pub hears : List ℕ → List ℕ → List Slot
@@ -124,9 +118,9 @@ six xs = xs ++ replicate (6 - length xs) 0
 
 -- Open.
 
-abbrev pub unit : List ℕ → Delivered
-unit [] = delivered.Nothing
-unit (u ∷ us) = delivered.Unit u
+abbrev pub unit : List ℕ → Option ℕ
+unit [] = None
+unit (u ∷ us) = Some u
 
 -- an end that opened in slot 300 on the book's first entry
 abbrev pub opened : Book → ℕ → Outbound → Inbound → Endpoint
@@ -139,17 +133,17 @@ opened b version o i =
     }
 
 -- so many of the first bytes have gone; a DH is due or not, and the last two Sd had leads 0100 and these BK
-abbrev pub sent : ℕ → Half → ℕ → ℕ → Outbound
+abbrev pub sent : ℕ → Option ℕ → ℕ → ℕ → Outbound
 sent opening due bk1 bk2 = outbound_of opening due Free (signals 0 1 0 0 bk1) (signals 0 1 0 0 bk2)
 
-abbrev pub got : Half → ℕ → Signals → Signals → Inbound
+abbrev pub got : Option ℕ → ℕ → Signals → Signals → Inbound
 got half pair last standing = inbound_of half pair last standing
 
 -- as if two Sdidle had come
 abbrev pub idle_got : Inbound
-idle_got = got Empty 0 (signals 0 1 0 0 0) (signals 0 1 0 0 0)
+idle_got = got None 0 (signals 0 1 0 0 0) (signals 0 1 0 0 0)
 
 -- a slot of an end open on this version and profile: what is sent, delivered and taken, and the leads and BK shown
 abbrev pub open_slot : ℕ → Entry → ℕ → Drive → ℕ → List ℕ → Bool → Signals → Slot
 open_slot version entry heard given sent units taken shown =
-    record { heard = heard; given = given; reply = reply.Passed (byte sent) (unit units) taken (outcome.Open version entry 300 shown) }
+    record { heard = heard; given = given; reply = passed_with (byte sent) (unit units) taken (outcome.Open version entry 300 shown) }

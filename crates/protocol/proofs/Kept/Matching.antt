@@ -1,4 +1,5 @@
 -- What a match says: the entry that it names has the parameters, and where it names none no entry has. Assumes nothing.
+use Rattle.std.specs.Prelude.{Option, Some, None}
 use mathlib.Core.Path.{◌≡◌, refl, sym, subst}
 use mathlib.Core.Logic.{◌⊎◌, inl, inr, ⊎_elim}
 use mathlib.Core.Bool.{Bool, true, false, cond, ◌&&◌}
@@ -13,20 +14,18 @@ use Rattle.ground.proofs.Test.{both_left, both_right}
 use Rattle.book.specs.declared.Entry.{Entry}
 use Rattle.book.specs.Book.{no_entry, same_params}
 use Rattle.protocol.specs.Exchange.{matches, match_in}
-use Rattle.protocol.specs.declared.Match.{Match}
-use Rattle.protocol.specs.declared.Match.TheVariants as match
 
-named_by : (b : Bool) (n i : ℕ) (m : Match) → cond b (match.Entry n) m ≡ match.Entry i → ((b ≡ true) × (n ≡ i)) ⊎ (m ≡ match.Entry i)
+named_by : (b : Bool) (n i : ℕ) (m : Option ℕ) → cond b (Some n) m ≡ Some i → ((b ≡ true) × (n ≡ i)) ⊎ (m ≡ Some i)
 named_by true n i m e = inl (refl, cc)
 named_by false n i m e = inr e
 
-none_by : (b : Bool) (n : ℕ) (m : Match) → cond b (match.Entry n) m ≡ match.Nothing → (b ≡ false) × (m ≡ match.Nothing)
+none_by : (b : Bool) (n : ℕ) (m : Option ℕ) → cond b (Some n) m ≡ None → (b ≡ false) × (m ≡ None)
 none_by true n m e = let z : ◌≡◌ {A = ℕ} 0 1 = cc in absurd (omega arith)
 none_by false n m e = (refl, e)
 
 module _ (version : ℕ) (entries : List Entry) (values : List ℕ) where
   -- the entry named is below n and has the parameters
-  pub names : (n i : ℕ) → match_in version entries values n ≡ match.Entry i → (i < n) × (matches version (get_or entries i no_entry) values ≡ true)
+  pub names : (n i : ℕ) → match_in version entries values n ≡ Some i → (i < n) × (matches version (get_or entries i no_entry) values ≡ true)
   unfolding match_in
   names zero i e = let z : ◌≡◌ {A = ℕ} 0 1 = cc in absurd (omega arith)
   names (suc n) i e =
@@ -36,7 +35,7 @@ module _ (version : ℕ) (entries : List Entry) (values : List ℕ) where
       (named_by (matches version (get_or entries n no_entry) values) n i (match_in version entries values n) e)
 
   -- none has them
-  pub names_none : (n i : ℕ) → match_in version entries values n ≡ match.Nothing → i < n → matches version (get_or entries i no_entry) values ≡ false
+  pub names_none : (n i : ℕ) → match_in version entries values n ≡ None → i < n → matches version (get_or entries i no_entry) values ≡ false
   unfolding match_in
   names_none zero i e l = absurd (omega arith)
   names_none (suc n) i e l =

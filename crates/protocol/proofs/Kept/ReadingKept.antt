@@ -1,4 +1,5 @@
 -- The receiving half of an open end stays in its range. Assumes nothing.
+use Rattle.std.specs.Prelude.{None}
 use mathlib.Core.Path.{◌≡◌, refl}
 use mathlib.Core.Bool.{Bool, true, ◌&&◌, ◌||◌}
 use Prim.Native.Nat.{ℕ, ◌≤◌}
@@ -15,7 +16,6 @@ use Rattle.channel.specs.Kinds.{kind_of}
 use Rattle.channel.specs.Forms.{is_data}
 use Rattle.protocol.specs.Opened.{pair_form, has_pair, fresh_line, Reading, reads_sd, reads_word, reads_idle, reads_six, reads_pair, reads_stream, reads_form, reading}
 use Rattle.protocol.specs.Ranges.{half_in, inbound_in}
-use Rattle.protocol.specs.declared.Half.TheVariants.{Empty}
 use Rattle.protocol.specs.declared.Shape.{Shape}
 use Rattle.protocol.specs.declared.Shape.TheVariants as shape
 use Rattle.protocol.specs.declared.Inbound.{Inbound}
@@ -26,7 +26,7 @@ abbrev Kept : Shape → Reading → Type 0
 Kept s r = inbound_in s r.inbound ≡ true
 
 -- nothing is held
-none_held : (s : Shape) (i : Inbound) → i.half ≡ Empty → i.pair ≡ 0 → inbound_in s i ≡ true
+none_held : (s : Shape) (i : Inbound) → i.half ≡ None → i.pair ≡ 0 → inbound_in s i ≡ true
 unfolding inbound_in
 none_held s i h p = rw (h, p) (or_right (has_pair s) refl)
 

@@ -1,4 +1,5 @@
 -- Every state that a start or a slot yields is well formed. Assumes nothing.
+use Rattle.std.specs.Prelude.{Option, Some, None}
 use mathlib.Core.Path.{◌≡◌, refl}
 use mathlib.Core.Bool.{Bool, true, false, cond, not, ◌&&◌, ◌||◌}
 use mathlib.Core.List.{List}
@@ -26,8 +27,6 @@ use Rattle.protocol.specs.declared.Fate.TheVariants.{Stays, OpensHearing, OpensS
 use Rattle.protocol.specs.declared.Awaited.{Awaited}
 use Rattle.protocol.specs.declared.Awaited.TheVariants.{Run}
 use Rattle.protocol.specs.declared.Line.{Line}
-use Rattle.protocol.specs.declared.Offer.{Offer}
-use Rattle.protocol.specs.declared.Offer.TheVariants as offer
 use Rattle.protocol.specs.declared.Phase.{Phase}
 use Rattle.protocol.specs.declared.Phase.TheVariants.{Exchanging, Open, Refused}
 use Rattle.protocol.specs.declared.Endpoint.{Endpoint}
@@ -175,9 +174,9 @@ module _ (b : Book) (ok : book_ok b ≡ true) (slot : ℕ) (l : slot < b.limit) 
 
 -- A slot of an open end.
 
-fits_allowed : (e : Endpoint) (version i : ℕ) (f : Offer) → offer_fits e version i f ≡ true → Fits (shape_of (entry_of e.book i) version) f
-fits_allowed e version i offer.Nothing a = tt
-fits_allowed e version i (offer.Unit u) a = a
+fits_allowed : (e : Endpoint) (version i : ℕ) (f : Option ℕ) → offer_fits e version i f ≡ true → Fits (shape_of (entry_of e.book i) version) f
+fits_allowed e version i None a = tt
+fits_allowed e version i (Some u) a = a
 
 open_kept : (e : Endpoint) (slot version i : ℕ) (line : Line) (heard : ℕ) (g : Drive) → book_ok e.book ≡ true
     → phase_in e.book e.nibbles e.values (Open slot version i line) ≡ true → offer_fits e version i g.offer ≡ true

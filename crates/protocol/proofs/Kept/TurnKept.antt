@@ -1,4 +1,5 @@
 -- One slot of the exchange, but for its clock: what is in its ranges stays so, or concludes within them. Assumes nothing.
+use Rattle.std.specs.Prelude.{Option, Some, None}
 use mathlib.Core.Path.{◌≡◌, refl}
 use mathlib.Core.Bool.{Bool, true, false, not, ◌&&◌, ◌||◌, true≢false, false≢true}
 use Prim.Native.Nat.{ℕ, ◌+◌, ◌<◌}
@@ -17,8 +18,6 @@ use Rattle.protocol.specs.declared.Awaited.{Awaited}
 use Rattle.protocol.specs.declared.Sending.{Sending}
 use Rattle.protocol.specs.declared.Sending.TheVariants.{Idle, Hail, Mask, Parameters, Done}
 use Rattle.protocol.specs.declared.Exchange.{Exchange}
-use Rattle.protocol.specs.declared.Match.{Match}
-use Rattle.protocol.specs.declared.Match.TheVariants as match
 use Rattle.protocol.specs.declared.Fate.{Fate}
 use Rattle.protocol.specs.declared.Fate.TheVariants.{Stays, OpensHearing, OpensSending, Refuses}
 use Rattle.protocol.proofs.Kept.Cases.{first_fails}
@@ -82,12 +81,12 @@ lack_advanced b (Parameters i) e l = absurd (false≢true e)
 lack_advanced b Done e l = absurd (false≢true e)
 
 -- an answerer opens on the entry that is matched
-opens_in : (b : Book) (x : Exchange) (m : Match) → matched b x.version x.hearing ≡ m → is_version b x.version ≡ true
+opens_in : (b : Book) (x : Exchange) (m : Option ℕ) → matched b x.version x.hearing ≡ m → is_version b x.version ≡ true
     → FateIn b x (opens_on m)
-opens_in b x (match.Entry i) e v =
+opens_in b x (Some i) e v =
     let named = names x.version b.entries (heard_params x.hearing) b.n i e in
     record { shared = v; below = named.0; stands = not-true _ (both_left (not (left_out x.version (entry_of b i))) _ named.1) }
-opens_in b x match.Nothing e v = refl
+opens_in b x None e v = refl
 
 -- an originator opens on its own entry
 own_in : (b : Book) (version : ℕ) → 0 < b.n → originates b ≡ true → is_version b version ≡ true → OpensIn b version 0

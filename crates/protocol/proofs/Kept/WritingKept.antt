@@ -1,4 +1,5 @@
 -- The sending half of an open end stays in its range. Assumes nothing.
+use Rattle.std.specs.Prelude.{Option, Some, None}
 use mathlib.Core.Path.{◌≡◌, refl, subst}
 use mathlib.Core.Bool.{Bool, true, false, not, ◌&&◌, ◌||◌}
 use Prim.Native.Nat.{ℕ, ◌+◌, ◌*◌, ◌/◌, ◌^◌, ◌<◌, ◌≤◌}
@@ -11,20 +12,16 @@ use Rattle.channel.specs.Forms.{word_fits}
 use Rattle.channel.specs.declared.byte.Leads.{Leads}
 use Rattle.protocol.specs.Opened.{has_unit, is_word, pair_form, has_pair, opening_sd, opening_bytes, fresh_line, Writing, writes_sd, writes_opening, writes_given, writes_word, writes_unit, writes_offer, changed, writes_claim, held, writes_due, writes_data, writing}
 use Rattle.protocol.specs.Ranges.{due_in, none_due, claim_in, outbound_in}
-use Rattle.protocol.specs.declared.Half.{Half}
-use Rattle.protocol.specs.declared.Half.TheVariants.{Empty, Holds}
 use Rattle.protocol.specs.declared.Shape.{Shape}
 use Rattle.protocol.specs.declared.Shape.TheVariants as shape
 use Rattle.protocol.specs.declared.Claim.{Claim}
 use Rattle.protocol.specs.declared.Claim.TheVariants.{Free, Second, Owed}
 use Rattle.protocol.specs.declared.Outbound.{Outbound}
-use Rattle.protocol.specs.declared.Offer.{Offer}
-use Rattle.protocol.specs.declared.Offer.TheVariants as offer
 use Rattle.protocol.specs.declared.Drive.{Drive}
 use Rattle.protocol.proofs.Kept.Cases.{both, or_right}
 
 -- no nibble is due
-due_empty : (s : Shape) (opening : ℕ) → due_in s opening Empty ≡ true
+due_empty : (s : Shape) (opening : ℕ) → due_in s opening None ≡ true
 due_empty (shape.Word w) opening = refl
 due_empty (shape.Unit f) opening = refl
 
@@ -46,16 +43,16 @@ moved_up (shape.Unit f) flag true bk2 e = e
 moved_up (shape.Unit f) flag false bk2 e = refl
 
 -- a claim stays in its range where no DH is due
-abbrev may_claim : Shape → ℕ → Half → Bool
+abbrev may_claim : Shape → ℕ → Option ℕ → Bool
 may_claim s opening due = not (has_pair s) && leb opening_sd opening && none_due due
 
-claim_stays : (s : Shape) (n : ℕ) (due : Half) (c : Claim) → claim_in s n due c ≡ true → claim_in s n Empty c ≡ true
+claim_stays : (s : Shape) (n : ℕ) (due : Option ℕ) (c : Claim) → claim_in s n due c ≡ true → claim_in s n None c ≡ true
 claim_stays s n due Free e = refl
 claim_stays s n due (Second leads) e = both (both_left (not (has_pair s) && leb opening_sd n) (none_due due) e) refl
 claim_stays s n due Owed e = both (both_left (not (has_pair s) && leb opening_sd n) (none_due due) e) refl
 
 module _ (s : Shape) (o : Outbound) (g : Drive) (i : OutboundIn s o) where
-  sd_kept : (opening : ℕ) (c : Claim) (leads : Leads) → opening ≤ opening_bytes s → claim_in s opening Empty c ≡ true
+  sd_kept : (opening : ℕ) (c : Claim) (leads : Leads) → opening ≤ opening_bytes s → claim_in s opening None c ≡ true
       → Kept s (writes_sd s o opening c leads g)
   sd_kept opening c leads l e =
       record {
@@ -76,16 +73,16 @@ module _ (s : Shape) (o : Outbound) (g : Drive) (i : OutboundIn s o) where
       (λ t. record { opening = omega arith; due = due_empty s (o.opening + 1); claim = refl; breaks = i.breaks })
 
 -- an offered unit is one of the shape's
-abbrev pub Fits : Shape → Offer → Type 0
-Fits s offer.Nothing = Unit {0}
-Fits s (offer.Unit u) = has_unit s u ≡ true
+abbrev pub Fits : Shape → Option ℕ → Type 0
+Fits s None = Unit {0}
+Fits s (Some u) = has_unit s u ≡ true
 
 -- form 0: the high nibble of a word of w bits is due
-word_kept : (w : ℕ) (o : Outbound) (g : Drive) → OutboundIn (shape.Word w) o → opening_sd ≤ o.opening → (x : Offer) → Fits (shape.Word w) x
+word_kept : (w : ℕ) (o : Outbound) (g : Drive) → OutboundIn (shape.Word w) o → opening_sd ≤ o.opening → (x : Option ℕ) → Fits (shape.Word w) x
     → Kept (shape.Word w) (writes_word w o g x)
 unfolding has_unit word_fits
-word_kept w o g i past offer.Nothing fits = given_kept (shape.Word w) o g i
-word_kept w o g i past (offer.Unit u) fits =
+word_kept w o g i past None fits = given_kept (shape.Word w) o g i
+word_kept w o g i past (Some u) fits =
     record {
       opening = i.opening;
       due = both (le-leb opening_sd o.opening past) (lt-ltb (16 * (u / 16)) (2 ^ w) (omega (arith, ltb-true u (2 ^ w) fits)));
@@ -93,9 +90,9 @@ word_kept w o g i past (offer.Unit u) fits =
       breaks = i.breaks;
     }
 
-unit_kept : (f : Form) (o : Outbound) (g : Drive) → OutboundIn (shape.Unit f) o → (x : Offer) → Kept (shape.Unit f) (writes_unit f o g x)
-unit_kept f o g i (offer.Unit u) = record { opening = i.opening; due = refl; claim = refl; breaks = i.breaks }
-unit_kept f o g i offer.Nothing =
+unit_kept : (f : Form) (o : Outbound) (g : Drive) → OutboundIn (shape.Unit f) o → (x : Option ℕ) → Kept (shape.Unit f) (writes_unit f o g x)
+unit_kept f o g i (Some u) = record { opening = i.opening; due = refl; claim = refl; breaks = i.breaks }
+unit_kept f o g i None =
     by_test (Kept (shape.Unit f)) (pair_form f) (λ t. record { opening = i.opening; due = refl; claim = refl; breaks = i.breaks })
     (λ t. given_kept (shape.Unit f) o g i)
 
@@ -106,7 +103,7 @@ module _ (s : Shape) (o : Outbound) (g : Drive) (i : OutboundIn s o) (past : ope
       word_kept w o g (subst (λ t. OutboundIn t o) e i) past g.offer (subst (λ t. Fits t g.offer) e fits)
   offer_kept (shape.Unit f) e = unit_kept f o g (subst (λ t. OutboundIn t o) e i) g.offer
 
-  may_claim_lem : has_pair s ≡ false → may_claim s o.opening Empty ≡ true
+  may_claim_lem : has_pair s ≡ false → may_claim s o.opening None ≡ true
   may_claim_lem none = rw (none, le-leb opening_sd o.opening past) refl
 
   claim_kept : has_pair s ≡ false → (c : Claim) → Kept s (writes_claim s o g c)
@@ -116,10 +113,10 @@ module _ (s : Shape) (o : Outbound) (g : Drive) (i : OutboundIn s o) (past : ope
       by_test (Kept s) (changed g.leads o) (λ t. sd_kept s o g i o.opening (Second g.leads) g.leads i.opening (may_claim_lem none))
       (λ t. offer_kept s refl)
 
-due_kept : (w : ℕ) (o : Outbound) (g : Drive) → OutboundIn (shape.Word w) o → opening_sd ≤ o.opening → (d : Half) → Fits (shape.Word w) g.offer
+due_kept : (w : ℕ) (o : Outbound) (g : Drive) → OutboundIn (shape.Word w) o → opening_sd ≤ o.opening → (d : Option ℕ) → Fits (shape.Word w) g.offer
     → Kept (shape.Word w) (writes_due w o g d)
-due_kept w o g i past (Holds high) fits = record { opening = i.opening; due = refl; claim = refl; breaks = i.breaks }
-due_kept w o g i past Empty fits =
+due_kept w o g i past (Some high) fits = record { opening = i.opening; due = refl; claim = refl; breaks = i.breaks }
+due_kept w o g i past None fits =
     by_test (Kept (shape.Word w)) (held g.flag o.last.bk o.before.bk) (λ t. given_kept (shape.Word w) o g i)
     (λ t. claim_kept (shape.Word w) o g i past fits refl o.claim)
 

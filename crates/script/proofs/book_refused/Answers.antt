@@ -6,9 +6,11 @@ use Rattle.script.proofs.book_refused.Goals as goal
 pub returns : goal.returns
 unfolding book_refused
 returns c = simp (
+  c.word-2.ensures,
+  c.decimal.ensures,
+  c.from.ensures,
+  c.number.ensures,
   c.word.ensures,
-  c.decimal-numbered.ensures,
-  c.word-begun.ensures,
-  c.empty.ensures,
+  c.new.ensures,
   appended_text,
 )

@@ -3,29 +3,29 @@ use Rattle.pair.specs.Report.{lines_of}
 use Rattle.text.proofs.Joined.{text_then}
 use Rattle.pair.proofs.report.lines.Goals as goal
 
-pub returns-in-InputRefused : goal.returns-in-InputRefused
+pub returns-in-Err-InputRefused : goal.returns-in-Err-InputRefused
 unfolding lines_of
-returns-in-InputRefused c = rw c.in-InputRefused.is (text_then _ _ c.empty.ensures c.word.ensures)
+returns-in-Err-InputRefused c = let why = rw c.in-Err-InputRefused.is at c.in-Err-InputRefused.field-0-is in rw (c.in-Err-InputRefused.is, why) (text_then _ _ c.new.ensures c.word.ensures)
 
-pub returns-in-RefusedO : goal.returns-in-RefusedO
+pub returns-in-Err-RefusedO : goal.returns-in-Err-RefusedO
 unfolding lines_of
-returns-in-RefusedO c = rw c.in-RefusedO.is
-    (text_then _ _ (text_then _ _ c.empty-in-RefusedO.ensures c.word-in-RefusedO.ensures) c.at_fault.ensures)
+returns-in-Err-RefusedO c = let why = rw c.in-Err-RefusedO.is at c.in-Err-RefusedO.field-0-is in rw (c.in-Err-RefusedO.is, why)
+    (text_then _ _ (text_then _ _ c.new-in-Err-RefusedO.ensures c.word-in-Err-RefusedO.ensures) c.at_fault.ensures)
 
-pub returns-in-RefusedA : goal.returns-in-RefusedA
+pub returns-in-Err-RefusedA : goal.returns-in-Err-RefusedA
 unfolding lines_of
-returns-in-RefusedA c = rw c.in-RefusedA.is
-    (text_then _ _ (text_then _ _ c.empty-in-RefusedA.ensures c.word-in-RefusedA.ensures) c.at_fault-in-RefusedA.ensures)
+returns-in-Err-RefusedA c = let why = rw c.in-Err-RefusedA.is at c.in-Err-RefusedA.field-0-is in rw (c.in-Err-RefusedA.is, why)
+    (text_then _ _ (text_then _ _ c.new-in-Err-RefusedA.ensures c.word-in-Err-RefusedA.ensures) c.at_fault-in-Err-RefusedA.ensures)
 
-pub returns-in-WrongRole : goal.returns-in-WrongRole
+pub returns-in-Err-WrongRole : goal.returns-in-Err-WrongRole
 unfolding lines_of
-returns-in-WrongRole c = rw c.in-WrongRole.is (text_then _ _ c.empty-in-WrongRole.ensures c.word-in-WrongRole.ensures)
+returns-in-Err-WrongRole c = let why = rw c.in-Err-WrongRole.is at c.in-Err-WrongRole.field-0-is in rw (c.in-Err-WrongRole.is, why) (text_then _ _ c.new-in-Err-WrongRole.ensures c.word-in-Err-WrongRole.ensures)
 
-pub returns-in-Ran : goal.returns-in-Ran
+pub returns-in-Ok : goal.returns-in-Ok
 unfolding lines_of
-returns-in-Ran c = rw c.in-Ran.is
+returns-in-Ok c = rw c.in-Ok.is
     (text_then _ _
     (text_then _ _
-    (text_then _ _ (text_then _ _ c.empty-in-Ran.ensures c.word-in-Ran.ensures) c.end_line.ensures)
-    c.word-in-Ran-2.ensures)
-    c.end_line-in-Ran.ensures)
+    (text_then _ _ (text_then _ _ c.new-in-Ok.ensures c.word-in-Ok.ensures) c.end_line.ensures)
+    c.word-in-Ok-2.ensures)
+    c.end_line-in-Ok.ensures)

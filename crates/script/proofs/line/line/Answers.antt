@@ -13,6 +13,6 @@ returns c = simp (
   c.with_reply-replied.ensures,
   c.spaced.ensures,
   c.decimal-placed.ensures,
-  c.empty.ensures,
+  c.new.ensures,
   appended_text,
 )

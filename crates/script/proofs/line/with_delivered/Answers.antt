@@ -2,10 +2,10 @@
 use Rattle.script.specs.Line.{delivered_field}
 use Rattle.script.proofs.line.with_delivered.Goals as goal
 
-pub returns-in-Refused : goal.returns-in-Refused
+pub returns-in-Err : goal.returns-in-Err
 unfolding delivered_field
-returns-in-Refused c = simp (c.word.ensures, c.in-Refused.is)
+returns-in-Err c = simp (c.word.ensures, c.in-Err.is)
 
-pub returns-in-Passed : goal.returns-in-Passed
+pub returns-in-Ok : goal.returns-in-Ok
 unfolding delivered_field
-returns-in-Passed c = simp (c.with_unit.ensures, c.in-Passed.is)
+returns-in-Ok c = simp (c.with_unit.ensures, c.in-Ok.is)

@@ -17,6 +17,7 @@ returns-in-Refused c = simp (
   c.decimal-in-Refused.ensures,
   c.word-in-Refused.ensures,
   c.decimal.ensures,
+  c.from.ensures,
   c.in-Refused.is,
   ← appended_append,
 )

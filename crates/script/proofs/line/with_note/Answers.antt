@@ -4,11 +4,11 @@ use Rattle.text.proofs.Joined.{appended_append}
 use Rattle.script.specs.Line.{refusal_note}
 use Rattle.script.proofs.line.with_note.Goals as goal
 
-pub returns-in-Refused : goal.returns-in-Refused
+pub returns-in-Err : goal.returns-in-Err
 unfolding refusal_note
-returns-in-Refused c = simp
-    (c.decimal.ensures, c.word.ensures, c.in-Refused.is, ← appended_append)
+returns-in-Err c = simp
+    (c.decimal.ensures, c.from.ensures, c.word.ensures, c.number.ensures, c.in-Err.is, ← appended_append)
 
-pub returns-in-Passed : goal.returns-in-Passed
+pub returns-in-Ok : goal.returns-in-Ok
 unfolding refusal_note appended
-returns-in-Passed c = simp c.in-Passed.is
+returns-in-Ok c = simp c.in-Ok.is

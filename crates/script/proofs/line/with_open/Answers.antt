@@ -7,9 +7,10 @@ pub returns : goal.returns
 unfolding detail_field
 returns c = simp (
   c.decimal-2.ensures,
-  c.word-b.ensures,
+  c.word-2.ensures,
   c.parameters.ensures,
-  c.word-a.ensures,
+  c.word.ensures,
   c.decimal.ensures,
+  c.from.ensures,
   ← appended_append,
 )

@@ -2,10 +2,10 @@
 use Rattle.script.specs.Line.{sent_field}
 use Rattle.script.proofs.line.with_sent.Goals as goal
 
-pub returns-in-Refused : goal.returns-in-Refused
+pub returns-in-Err : goal.returns-in-Err
 unfolding sent_field
-returns-in-Refused c = simp (c.word.ensures, c.in-Refused.is)
+returns-in-Err c = simp (c.word.ensures, c.in-Err.is)
 
-pub returns-in-Passed : goal.returns-in-Passed
+pub returns-in-Ok : goal.returns-in-Ok
 unfolding sent_field
-returns-in-Passed c = simp (c.hex.ensures, c.in-Passed.is)
+returns-in-Ok c = simp (c.hex.ensures, c.in-Ok.is)

@@ -2,14 +2,14 @@
 use Rattle.script.specs.Line.{taken_field}
 use Rattle.script.proofs.line.with_taken.Goals as goal
 
-pub returns-then-taken : goal.returns-then-taken
+pub returns-then-passed : goal.returns-then-passed
 unfolding taken_field
-returns-then-taken c = simp (c.word-then-taken.ensures, c.in-Passed.is, c.if-taken.true)
+returns-then-passed c = simp (c.word.ensures, c.in-Ok.is, c.if-passed.true)
 
-pub returns-in-Refused : goal.returns-in-Refused
+pub returns-else-passed : goal.returns-else-passed
 unfolding taken_field
-returns-in-Refused c = simp (c.word.ensures, c.in-Refused.is)
+returns-else-passed c = simp (c.word-in-Ok.ensures, c.in-Ok.is, c.if-passed.false)
 
-pub returns-else-taken : goal.returns-else-taken
+pub returns-in-Err : goal.returns-in-Err
 unfolding taken_field
-returns-else-taken c = simp (c.word-in-Passed.ensures, c.in-Passed.is, c.if-taken.false)
+returns-in-Err c = simp (c.word-in-Err.ensures, c.in-Err.is)
