@@ -1,11 +1,19 @@
 -- Any two replies that a public function's promise admits are equal: read off the promises as the source states them. Assumes nothing.
 use mathlib.Core.Path.{◌≡◌}
 use Rattle.ground.proofs.OneReply.{one_reply}
+use Rattle.book.proofs.Entry.params.Reads as params
+use Rattle.book.proofs.Refusal.number.Reads as refusal-number
 use Rattle.book.proofs.number.Reads as number
 use Rattle.book.proofs.offset.Reads as offset
 use Rattle.book.proofs.read_book.Reads as read-book
 use Rattle.book.proofs.book_ok.Reads as book-ok
 use Rattle.book.proofs.entry_part.Reads as entry-part
+
+pub params_one : (a : _) (r s : _) (x y : _) → params.Post tt a r x → params.Post tt a s y → r ≡ s
+params_one a r s x y p q = one_reply _ p q
+
+pub refusal_number_one : (a : _) (r s : _) (x y : _) → refusal-number.Post tt a r x → refusal-number.Post tt a s y → r ≡ s
+refusal_number_one a r s x y p q = one_reply _ p q
 
 pub number_one : (a : _) (r s : _) (x y : _) → number.Post tt a r x → number.Post tt a s y → r ≡ s
 number_one a r s x y p q = one_reply _ p q

@@ -31,7 +31,8 @@ pub struct Entry {
 }
 
 impl Entry {
-    fn params(self) -> [u8; 5]
+    // The five parameters in their order.
+    pub fn params(self) -> [u8; 5]
         ensures { result ≡ params_of self }
     {
         [self.p0, self.p1, self.p2, self.p3, self.p4]

@@ -3,7 +3,7 @@ ghost use Rattle.std.specs.Prelude.{◌≡◌};
 ghost use Rattle.channel.specs.Versions.{shared, highest};
 ghost use Rattle.channel.specs.Answers.{says_shared, shared_in_numbers};
 
-// The highest set bit, counted from 1; 0 where none is set.
+// The highest set bit, counted from 1; 0 where none is set, as the definition has it.
 #[tactic(auto, using(crate::proofs::HighestBit::leading_is))]
 fn highest(mask: u8) -> u8
     ensures { result ≡ highest mask mask }

@@ -234,7 +234,7 @@ pub fn hear(b: Book, h: Hearing, k: Kind) -> Hearing
     }
 }
 
-// Which item is awaited; 6 for nothing.
+// Which item is awaited; 6 for nothing, so that what has come is told by one comparison.
 pub fn item_of(a: Awaited) -> u8
     ensures { result ≡ item_of a }
 {

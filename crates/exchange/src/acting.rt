@@ -8,15 +8,13 @@ use channel::kind::Kind;
 use channel::version::shared_version;
 use collecting::hearing::{has_identifier, hear};
 use collecting::kept_book::identifier;
-use protocol::{Awaited, Exchange, Hearing};
+use protocol::{Exchange, Hearing};
 
 // The identifier is voted in this slot.
 pub(crate) fn settles(before: Hearing, after: Hearing) -> bool
     ensures { result ≡ settles before after }
 {
-    let was = before.awaited;
-    let is = after.awaited;
-    !has_identifier(was) & has_identifier(is)
+    !has_identifier(before.awaited) & has_identifier(after.awaited)
 }
 
 // The version after the identifier is voted, 0 for none that both masks have; before, and in later slots, it stands.
@@ -36,21 +34,11 @@ fn settled(settling: bool, version: u8, own: u8, other: u8) -> u8
 pub(crate) fn acted(b: Book, x: Exchange, k: Kind) -> Exchange
     ensures { result ≡ acted b x k }
 {
-    let before = x.hearing;
-    let sending = x.sending;
-    let after = hear(b, before, k);
-    let values = after.values;
-    let version = settled(settles(before, after), x.version, identifier(b), values[0]);
+    let after = hear(b, x.hearing, k);
+    let settling = settles(x.hearing, after);
     Exchange {
         hearing: after,
-        version,
-        sending,
+        version: settled(settling, x.version, identifier(b), after.values[0]),
+        sending: x.sending,
     }
-}
-
-pub(crate) fn awaited_of(x: Exchange) -> Awaited
-    ensures { result ≡ x.hearing.awaited }
-{
-    let hearing = x.hearing;
-    hearing.awaited
 }

@@ -2,7 +2,7 @@
 ghost use Rattle.std.specs.Prelude.{◌≡◌, ◌&&◌, eqb};
 ghost use Rattle.protocol.specs.Exchange.{settles, chosen_answering, answered, opens_on};
 
-use crate::acting::{awaited_of, settles};
+use crate::acting::settles;
 use collecting::hearing::{awaits_hail, has_all};
 use protocol::{Exchange, Fate, Sending};
 
@@ -10,9 +10,7 @@ use protocol::{Exchange, Fate, Sending};
 pub(crate) fn settles_none(x: Exchange, y: Exchange) -> bool
     ensures { result ≡ (settles x.hearing y.hearing && eqb y.version 0) }
 {
-    let before = x.hearing;
-    let after = y.hearing;
-    settles(before, after) & (y.version == 0)
+    settles(x.hearing, y.hearing) & (y.version == 0)
 }
 
 // Sgvi until 16 contiguous Sgvi have come, from that slot the identifier, then Sdidle; from the slot that completes p4 the parameters.
@@ -20,7 +18,7 @@ pub(crate) fn settles_none(x: Exchange, y: Exchange) -> bool
 pub(crate) fn chosen_answering(y: Exchange, s: Sending) -> Sending
     ensures { result ≡ chosen_answering y s }
 {
-    let awaited = awaited_of(y);
+    let awaited = y.hearing.awaited;
     match s {
         Sending::Idle => {
             if has_all(awaited) {

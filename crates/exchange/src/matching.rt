@@ -1,6 +1,5 @@
 // The entry that has the other end's parameters.
 ghost use Rattle.std.specs.Prelude.{◌≡◌};
-ghost use Rattle.book.specs.Book.{params_of};
 ghost use Rattle.protocol.specs.Exchange.{heard_params, has_params, matches, matched};
 
 use book::{Book, Entry};
@@ -15,17 +14,11 @@ pub(crate) fn heard_params(h: Hearing) -> [u8; 5]
     [values[1], values[2], values[3], values[4], values[5]]
 }
 
-pub(crate) fn params_of(e: Entry) -> [u8; 5]
-    ensures { result ≡ params_of e }
-{
-    [e.p0, e.p1, e.p2, e.p3, e.p4]
-}
-
 // The entry's five parameters are the values.
 pub(crate) fn has_params(e: Entry, values: [u8; 5]) -> bool
     ensures { result ≡ has_params e values }
 {
-    params_of(e) == values
+    e.params() == values
 }
 
 // On a version an entry is matched by its parameters, unless it is left out.

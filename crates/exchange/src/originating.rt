@@ -3,7 +3,6 @@ ghost use Rattle.std.specs.Prelude.{◌≡◌, ◌&&◌, eqb};
 ghost use Rattle.protocol.specs.Collecting.{has_all};
 ghost use Rattle.protocol.specs.Exchange.{all_sent, compared, chosen_originating, last_of_mask, last_of_all};
 
-use crate::acting::awaited_of;
 use crate::matching::{has_params, heard_params};
 use crate::sending::{last_of_all, last_of_mask};
 use book::Book;
@@ -22,16 +21,14 @@ fn all_sent(s: Sending) -> bool
 pub(crate) fn all_exchanged(y: Exchange) -> bool
     ensures { result ≡ (all_sent y.sending && has_all y.hearing.awaited) }
 {
-    let sending = y.sending;
-    all_sent(sending) & has_all(awaited_of(y))
+    all_sent(y.sending) & has_all(y.hearing.awaited)
 }
 
 // Originating: opens if all five are equal, else refuses 22.
 pub(crate) fn compared(b: Book, y: Exchange, opens: Fate) -> Fate
     ensures { result ≡ compared b y.hearing opens }
 {
-    let hearing = y.hearing;
-    if has_params(entry_of(b, 0), heard_params(hearing)) {
+    if has_params(entry_of(b, 0), heard_params(y.hearing)) {
         opens
     } else {
         Fate::Refuses(22)
@@ -44,7 +41,7 @@ pub(crate) fn compared(b: Book, y: Exchange, opens: Fate) -> Fate
 pub(crate) fn chosen_originating(y: Exchange, s: Sending) -> Sending
     ensures { result ≡ chosen_originating y s }
 {
-    let awaited = awaited_of(y);
+    let awaited = y.hearing.awaited;
     match s {
         Sending::Idle => {
             if awaits_hail(awaited) {
@@ -75,5 +72,5 @@ pub(crate) fn last_of_zero_mask(y: Exchange, s: Sending) -> bool
 pub(crate) fn last_exchanged(b: Book, y: Exchange, s: Sending) -> bool
     ensures { result ≡ (last_of_all b s && has_all y.hearing.awaited) }
 {
-    last_of_all(b, s) & has_all(awaited_of(y))
+    last_of_all(b, s) & has_all(y.hearing.awaited)
 }

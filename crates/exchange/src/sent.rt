@@ -5,7 +5,7 @@ ghost use Rattle.protocol.specs.Sent.{group_byte, byte_sent, parameter_sent};
 ghost use Rattle.protocol.specs.Exchange.{mask_sent, values_sent, sent_as};
 
 use crate::answering::answered;
-use crate::matching::{Acted, heard_params, params_of};
+use crate::matching::{Acted, heard_params};
 use book::Book;
 use channel::byte::ChannelByte;
 use collecting::kept_book::{entry_of, identifier, originates};
@@ -74,7 +74,7 @@ fn mask_sent(b: Book, version: u8) -> u8
 fn values_sent(y: Acted) -> [u8; 5]
     ensures { result ≡ values_sent y.book y.exchange.version y.exchange.hearing }
 {
-    let own = params_of(entry_of(y.book, 0));
+    let own = entry_of(y.book, 0).params();
     if originates(y.book) {
         own
     } else {

@@ -75,11 +75,10 @@ fn fate_heard(b: Book, x: Exchange, y: Exchange) -> Fate
 fn chosen(b: Book, y: Exchange) -> Sending
     ensures { result ≡ chosen b y }
 {
-    let sending = y.sending;
     if originates(b) {
-        chosen_originating(y, sending)
+        chosen_originating(y, y.sending)
     } else {
-        chosen_answering(y, sending)
+        chosen_answering(y, y.sending)
     }
 }
 

@@ -34,6 +34,7 @@ fn refused_line(t: Text, number: u8, slot: u16) -> Text
 }
 
 // The line of an end whose letter is written.
+#[tactic(auto, unfolding(crate::specs::Report::end_line))]
 fn end_line(t: Text, o: Outcome) -> Text
     ensures { result ≡ appended t (end_line o) }
 {

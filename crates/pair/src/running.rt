@@ -17,7 +17,7 @@ use std::num::NonZeroU8;
 const LONGEST_DELAY: usize = 255;
 
 // The bytes on their way to an end, in a ring of as many places as the delay has slots: the one that arrives next stands at the place next.
-// An array of the longest delay's, since memory is fixed.
+// An array as long as the longest delay: nothing is allocated, and nothing can fail.
 #[derive(Drop)]
 pub(crate) struct Ring {
     bytes: [u8; LONGEST_DELAY],

@@ -5,3 +5,4 @@ pub mod Calls
 pub mod Chain
 pub mod Delivery
 pub mod Figures
+pub mod OneReply

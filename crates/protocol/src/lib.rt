@@ -126,7 +126,7 @@ pub struct Endpoint {
     pub phase: Phase,
 }
 
-// What has come in the exchange.
+// What has come in the exchange; the arrays are those of the endpoint.
 #[derive(Clone, Copy)]
 pub struct Hearing {
     pub awaited: Awaited,
@@ -134,7 +134,7 @@ pub struct Hearing {
     pub values: [u8; 6],
 }
 
-// The state of the exchange but for its clock. The version is 0 until it is settled, and where none is shared.
+// The state of the exchange but for its clock. The version is 0 until it is settled, and where none is shared, as the phase keeps it.
 #[derive(Clone, Copy)]
 pub struct Exchange {
     pub hearing: Hearing,
@@ -149,7 +149,7 @@ pub enum Fate {
     // opened by the received byte, or by the own last byte, on an entry
     OpensHearing(u8),
     OpensSending(u8),
-    // under a number, as the phase keeps it
+    // under the number that the phase keeps: an enum would be turned into it at once
     Refuses(u8),
 }
 

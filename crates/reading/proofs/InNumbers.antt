@@ -74,11 +74,15 @@ module _ (i : Inbound) where
   unit SevenV2 b = stream (unit_in SevenV2 b) (eqb i.pair 2) (kind_of b)
   unit Eight b = stream (unit_in Eight b) (eqb i.pair 2) (kind_of b)
 
-  delivers : (s : Shape) (b : ℕ) → says (reading s i b) ≡ delivers_of s i b
+  pub delivers : (s : Shape) (b : ℕ) → says (reading s i b) ≡ delivers_of s i b
   unfolding reading delivers_of
   delivers (shape.Word w) b = word w (kind_of b)
   delivers (shape.Unit f) b = unit f b
 
-pub replies : (s : Shape) (i : Inbound) (b : ℕ) {r : ReadingMade} → r ≡ reading_made (reading s i b)
+pub says_delivers : (s : Shape) (i : Inbound) (b : ℕ) {r : ReadingMade} → r ≡ reading_made (reading s i b)
     → says_delivered r.delivered ≡ delivers_of s i b
-replies s i b p = ap (λ (r : ReadingMade). says_delivered r.delivered) p ∙ delivers i s b
+says_delivers s i b p = ap (λ (r : ReadingMade). says_delivered r.delivered) p ∙ delivers i s b
+
+pub replies : (s : Shape) (i : Inbound) (b : ℕ) {r : ReadingMade} → r ≡ reading_made (reading s i b)
+    → (r ≡ reading_made (reading s i b)) × (says_delivered r.delivered ≡ delivers_of s i b)
+replies s i b p = (p, says_delivers s i b p)

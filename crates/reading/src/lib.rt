@@ -172,7 +172,7 @@ fn reads_form(f: Form, i: Inbound, heard: ChannelByte) -> ReadingMade
     }
 }
 
-#[tactic(auto, using(crate::proofs::InNumbers::replies), unfolding(protocol::specs::Opened::reading))]
+#[tactic(auto, using(crate::proofs::InNumbers::says_delivers), unfolding(protocol::specs::Opened::reading))]
 pub fn reading(s: Shape, i: Inbound, heard: ChannelByte) -> ReadingMade
     ensures value { result ≡ reading_made (reading s i heard.0) }
     ensures says { says_delivered result.delivered ≡ delivers_of s i heard.0 }

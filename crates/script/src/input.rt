@@ -41,6 +41,7 @@ pub(crate) fn drive(flags: u8, unit: u8) -> Drive
 fn slots_fault(slots: &[u8]) -> bool
     ensures { result ≡ slots_fault slots.now }
 {
+    // a `while let`, since what is left over at the end is a fault
     let mut rest = slots;
     while let [_, flags, _, tail @ ..] = rest {
         if is_stray(*flags) {

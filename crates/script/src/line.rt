@@ -1,4 +1,4 @@
-// The line of a slot: seven fields parted by one space.
+// The line of a slot: seven fields parted by one space. Functions of a text and not methods, since the type is another crate's.
 ghost use Rattle.std.specs.Prelude.{◌≡◌};
 ghost use Rattle.protocol.specs.declared.Outcome.TheVariants.{Open};
 ghost use Rattle.text.specs.Text.{text, appended};
@@ -14,6 +14,7 @@ fn spaced(t: Text) -> Text
     t.word(b" ")
 }
 
+#[tactic(auto, unfolding(crate::specs::Line::sent_field))]
 fn with_sent(t: Text, reply: Reply) -> Text
     ensures { result ≡ appended t (sent_field reply) }
 {
@@ -32,6 +33,7 @@ fn with_unit(t: Text, delivered: Option<u8>) -> Text
     }
 }
 
+#[tactic(auto, unfolding(crate::specs::Line::delivered_field))]
 fn with_delivered(t: Text, reply: Reply) -> Text
     ensures { result ≡ appended t (delivered_field reply) }
 {
@@ -41,6 +43,7 @@ fn with_delivered(t: Text, reply: Reply) -> Text
     }
 }
 
+#[tactic(auto, unfolding(crate::specs::Line::taken_field))]
 fn with_taken(t: Text, reply: Reply) -> Text
     ensures { result ≡ appended t (taken_field reply) }
 {
@@ -76,6 +79,7 @@ fn with_signals(t: Text, g: Signals) -> Text
     with_flag(d, g.bk)
 }
 
+#[tactic(auto, unfolding(crate::specs::Line::signals_field))]
 fn with_standing(t: Text, o: Outcome) -> Text
     ensures { result ≡ appended t (signals_field o) }
 {
@@ -86,6 +90,7 @@ fn with_standing(t: Text, o: Outcome) -> Text
     }
 }
 
+#[tactic(auto, unfolding(crate::specs::Line::stands_field))]
 fn with_stands(t: Text, o: Outcome) -> Text
     ensures { result ≡ appended t (stands_field o) }
 {
@@ -106,6 +111,7 @@ fn with_open(t: Text, version: u8, profile: Entry, slot: u16, signals: Signals) 
         .decimal(slot)
 }
 
+#[tactic(auto, unfolding(crate::specs::Line::detail_field))]
 fn with_detail(t: Text, o: Outcome) -> Text
     ensures { result ≡ appended t (detail_field o) }
 {
@@ -123,6 +129,7 @@ fn with_detail(t: Text, o: Outcome) -> Text
     }
 }
 
+#[tactic(auto, unfolding(crate::specs::Line::refusal_note, text::specs::Text::appended))]
 fn with_note(t: Text, reply: Reply) -> Text
     ensures { result ≡ appended t (refusal_note reply) }
 {

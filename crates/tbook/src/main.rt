@@ -27,6 +27,7 @@ entry 1: 0102030406 form 0 w 8\n\
 examples/book.hex has such a book, and examples/book-form.hex one with a slip in it.\n",
 };
 
+// Each program has its own: the room that it needs, and the one function that it calls.
 fn answer<R: Read, W: Write>(from: &mut R, to: &mut W) -> Result<(), Failure> {
     let mut input = [0u8; PLACES];
     let mut output = [0u8; ROOM];

@@ -11,8 +11,8 @@ pub mod output; // output.rt: a text put into a buffer
 
 pub const ROOM: usize = 64;
 
-// A short text, from its start; zeros past it. An array with its length beside it, since memory is fixed; nothing ties the two, since
-// `put` answers for any length, above 64 too.
+// A short text, from its start; zeros past it. An array with its length beside it, since a String allocates and what is said here can't
+// fail; nothing ties the two, since `put` answers for any length, above 64 too.
 #[derive(Clone, Copy, PartialEq, Eq, Debug)]
 pub struct Text {
     pub bytes: [u8; ROOM],
@@ -71,7 +71,7 @@ impl Text {
         self.push(digit(n / unit % 10))
     }
 
-    // Without leading zeros. By hand, as `hex` is: `write!` promises what it wrote only where it returns Ok, and this always writes.
+    // Without leading zeros. By hand, as `hex` is: `write!` promises what it wrote only where it returns Ok, and this can't fail.
     pub fn decimal(self, n: u16) -> Text
         ensures { result ≡ appended self (decimal_of n) }
     {

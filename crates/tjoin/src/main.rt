@@ -24,6 +24,7 @@ input refused                    it is too short or too long, or the delay is 0\
 docs/NUMBERS.md says what each number means; examples/pair.hex has such an input.\n",
 };
 
+// Each program has its own: the room that it needs, and the one function that it calls.
 fn answer<R: Read, W: Write>(from: &mut R, to: &mut W) -> Result<(), Failure> {
     let mut input = [0u8; PLACES];
     let n = read_all(from, &mut input)?;

@@ -29,6 +29,7 @@ docs/NUMBERS.md), or input refused: it is too long, is cut in the length, the bo
 slot, or has bit 6 or 7 on. examples/answerer.hex has such an input.\n",
 };
 
+// Each program has its own: the room that it needs, and the one function that it calls.
 fn answer<R: Read, W: Write>(from: &mut R, to: &mut W) -> Result<(), Failure> {
     // one byte longer than the largest script, so that a larger one is told
     let mut input = io::large_buffer();

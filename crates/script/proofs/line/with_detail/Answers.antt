@@ -3,14 +3,6 @@ use Rattle.text.proofs.Joined.{appended_append}
 use Rattle.script.specs.Line.{detail_field}
 use Rattle.script.proofs.line.with_detail.Goals as goal
 
-pub returns-in-Exchanging : goal.returns-in-Exchanging
-unfolding detail_field
-returns-in-Exchanging c = simp (c.word.ensures, c.in-Exchanging.is)
-
-pub returns-in-Open : goal.returns-in-Open
-unfolding detail_field
-returns-in-Open c = simp (c.with_open.ensures, c.in-Open.is, ← appended_append)
-
 pub returns-in-Refused : goal.returns-in-Refused
 unfolding detail_field
 returns-in-Refused c = simp (
