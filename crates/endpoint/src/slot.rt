@@ -23,7 +23,7 @@ use ranges::phase_in;
 use reading::reading;
 use writing::{first_written, writing};
 
-// An end but for its book, which no slot changes, and which is therefore not carried through a slot.
+// What a slot makes of an end: all but its book, which no slot changes.
 #[derive(Clone, Copy)]
 pub(crate) struct Rest {
     pub(crate) nibbles: [u8; 6],
@@ -184,7 +184,7 @@ impl Calling {
     }
 }
 
-// An open end: the slot in which it opened, the version, its entry and its line.
+// An open end: the slot in which it opened, the version, its entry and its line, as its phase has them.
 #[derive(Clone, Copy)]
 pub(crate) struct OpenEnd {
     pub(crate) end: Endpoint,

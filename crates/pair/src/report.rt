@@ -1,4 +1,4 @@
-// What the join program prints for an input.
+// What the join program prints for an input. Functions of a text and not methods, since the type is another crate's.
 ghost use Rattle.std.specs.Prelude.{◌≡◌};
 ghost use Rattle.text.specs.Text.{text, appended};
 ghost use Rattle.pair.specs.Report.{open_line, refused_line, end_line, at_fault, lines_of, join_says};

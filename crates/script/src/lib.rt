@@ -41,6 +41,7 @@ fn lines(script: Script, begun: Endpoint, out: &mut [u8]) -> usize
     let mut e = begun;
     let mut place: u16 = 0;
     let mut at: usize = 0;
+    // by a pattern of three bytes, which needs no index; the place counts the slots, for it is printed
     let mut rest = script.slots;
     while let [heard, flags, unit, tail @ ..] = rest {
         let answer = slot(e, ChannelByte(*heard), input::drive(*flags, *unit));
