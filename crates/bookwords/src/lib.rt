@@ -1,4 +1,5 @@
-// What a person is told of a book: the first fault, or what the book says, line by line.
+// What a person is told of a book: the first fault, or what the book says, line by line. Functions of a text and not methods, since the
+// type is another crate's; a number that is told fits 16 bits, as each `requires` says.
 #![tactic(auto)]
 
 ghost use Rattle.std.specs.Prelude.{◌≡◌, true, ◌^◌, ◌<◌, min, length};

@@ -23,7 +23,8 @@ use ranges::phase_in;
 use reading::reading;
 use writing::{first_written, writing};
 
-// What a slot makes of an end: all but its book, which no slot changes.
+// What a slot makes of an end: all but its book, which no slot changes. Its arrays are the endpoint's. They go from one struct to
+// another by a variable, here and below: straight from field to field the check does not cover an array.
 #[derive(Clone, Copy)]
 pub(crate) struct Rest {
     pub(crate) nibbles: [u8; 6],
@@ -135,6 +136,7 @@ impl Calling {
         self.refuses(23)
     }
 
+    // Under the number that the phase keeps.
     fn refuses(self, number: u8) -> Rest
         ensures { result ≡ concluded_rest self.exchange (Refused number self.slot) }
     {

@@ -23,6 +23,7 @@ fn open_line(t: Text, version: u8, profile: Entry, slot: u16) -> Text
     profiled.decimal(slot).word(b"\n")
 }
 
+// The number is that of an outcome.
 fn refused_line(t: Text, number: u8, slot: u16) -> Text
     ensures { result ≡ appended t (refused_line number slot) }
 {
@@ -70,7 +71,7 @@ fn lines(j: Result<Concluded, NotJoined>) -> Text
     }
 }
 
-// The input: the originator's book, the answerer's, one delay byte.
+// The input: the originator's book, the answerer's, one delay byte, at the places that document 01 gives.
 pub fn report(s: &[u8]) -> Text
     ensures { result ≡ text (join_says s.now) }
 {

@@ -158,7 +158,7 @@ fn is_last(slot: u16, limit: u16) -> bool
     u32::from(slot) + 1 == u32::from(limit)
 }
 
-// An end that refuses 23 does so in the last slot.
+// An end that refuses 23 does so in the last slot. A stored state may hold any number.
 #[tactic(auto, unfolding(protocol::specs::Ranges::refused_in))]
 fn refused_in(b: Book, number: u8, slot: u16) -> bool
     ensures { result ≡ refused_in b number slot }

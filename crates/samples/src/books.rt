@@ -33,7 +33,8 @@ pub(crate) fn one(limit: u16) -> [u8; 17] {
     ]
 }
 
-// The originator's book, the answerer's and the delay; each has one entry of this form.
+// The originator's book, the answerer's and the delay; each has one entry of this form. Masks and forms are bytes of a book here and
+// below, and numbers, since some of these books are refused.
 pub(crate) fn pair(
     mask_o: u8,
     form_o: u8,

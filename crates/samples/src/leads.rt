@@ -34,6 +34,7 @@ fn opened(form: u8, w: u8) -> Endpoint {
     }
 }
 
+// As a script's byte has them; to share these lines `script` would have to make its own public.
 fn leads(bits: u8) -> Leads {
     Leads {
         s0: bits % 2 == 1,

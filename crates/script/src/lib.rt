@@ -40,6 +40,7 @@ fn lines(script: Script, begun: Endpoint, out: &mut [u8]) -> usize
 {
     let mut e = begun;
     let mut place: u16 = 0;
+    // the place that `put` promises, from one line to the next: a struct of buffer and place is no plainer
     let mut at: usize = 0;
     // by a pattern of three bytes, which needs no index; the place counts the slots, for it is printed
     let mut rest = script.slots;

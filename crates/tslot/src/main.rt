@@ -40,7 +40,7 @@ fn answer<R: Read, W: Write>(from: &mut R, to: &mut W) -> Result<(), Failure> {
     written.map_err(|_| Failure::NotWritten)
 }
 
-// The same lines in each program, since only `main` may name its runtime.
+// The same lines in each program: one function for all would take `answer` as a closure, and require that it may be called.
 fn main(rt: HostRuntime) {
     let argument = rt.arg(1, &mut [0u8; 1]);
     if !PROGRAM.explains(argument, &mut rt.stderr()) {
