@@ -1,6 +1,6 @@
 // The bytes of a book: what stands where, and the checks of the bytes themselves.
 ghost use Rattle.std.specs.Prelude.{◌≡◌, ◌+◌, ◌*◌, ◌<◌, ◌≤◌, length, take, IfOk, IfErr, IsErrOf};
-ghost use Rattle.book.specs.Book.{least_header, header_length, entry_length, most_entries, entry_start, version_in, entry_at, kept_entries, header_of};
+ghost use Rattle.book.specs.Book.{least_header, header_length, most_entries, entry_start, version_in, entry_at, kept_entries, header_of};
 ghost use Rattle.book.specs.Refusals.{fault, nothing_wrong, is_mark, start_fault, length_fault};
 
 use super::{Book, Entry, Fault, MOST_ENTRIES, NO_ENTRIES, Refusal};
@@ -58,7 +58,7 @@ pub(crate) fn version_in(s: &[u8; LEAST_HEADER]) -> u16
     word(s[VERSION_AT], s[VERSION_AT + 1])
 }
 
-// The header of s, or what is wrong with its start: 1 for fewer than 10 bytes, 2 and 3.
+// The header of s, or what is wrong with its start: refusal 1 for fewer than 10 bytes, and refusals 2 and 3.
 #[tactic(auto, using(crate::proofs::Header::first_ten), unfolding(crate::specs::Refusals::start_fault))]
 pub(crate) fn header(s: &[u8]) -> Result<&[u8; LEAST_HEADER], Fault>
     ensures fine { IfOk result (λ h. (start_fault s.now ≡ nothing_wrong) × (h.now ≡ take least_header s.now)) }
@@ -92,7 +92,7 @@ pub(crate) fn entry_start(version: u16, i: usize) -> usize
     header_length(version) + ENTRY_LENGTH * i
 }
 
-// 1 for fewer than 10+7n bytes, and 11.
+// Refusal 1 for fewer than 10+7n bytes, and refusal 11.
 #[tactic(auto, unfolding(crate::specs::Refusals::length_fault))]
 pub(crate) fn length_fault(version: u16, s: &[u8], n: u8) -> Result<(), Fault>
     ensures { result ≡ length_fault version s.now n }
@@ -120,19 +120,19 @@ pub(crate) fn values(s: &[u8; LEAST_HEADER]) -> Book
     }
 }
 
-// The entry whose bytes start at k.
-fn entry_at(s: &[u8], k: usize) -> Entry
-    requires { k + entry_length ≤ length s.now }
-    ensures { result ≡ entry_at s.now k }
+// The entry that seven bytes make.
+fn entry_from(bytes: &[u8; ENTRY_LENGTH]) -> Entry
+    ensures { result ≡ entry_at bytes.now 0 }
 {
+    let [p0, p1, p2, p3, p4, form, w] = *bytes;
     Entry {
-        p0: s[k],
-        p1: s[k + 1],
-        p2: s[k + 2],
-        p3: s[k + 3],
-        p4: s[k + 4],
-        form: s[k + FORM_IN],
-        w: s[k + WIDTH_IN],
+        p0,
+        p1,
+        p2,
+        p3,
+        p4,
+        form,
+        w,
     }
 }
 
@@ -143,8 +143,9 @@ pub(crate) fn load(version: u16, s: &[u8], n: usize) -> [Entry; MOST_ENTRIES]
     ensures { result ≡ kept_entries version s.now n }
 {
     let mut es = NO_ENTRIES;
+    let (chunks, _) = s[header_length(version)..].as_chunks();
     for i in 0..n {
-        es[i] = entry_at(s, entry_start(version, i));
+        es[i] = entry_from(&chunks[i]);
     }
     es
 }

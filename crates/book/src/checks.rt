@@ -22,7 +22,7 @@ fn wrong_count(role: u8, n: u8) -> bool
     n == 0 || usize::from(n) > MOST_ENTRIES || (role == ORIGINATING && n != 1)
 }
 
-// 4 to 7.
+// Refusals 4 to 7.
 #[tactic(auto, unfolding(crate::specs::Refusals::values_fault))]
 pub(crate) fn values_fault(b: Book) -> Result<(), Fault>
     ensures { result ≡ values_fault b }
@@ -80,7 +80,7 @@ fn seen(earlier: &[Entry], e: Entry) -> bool
     earlier.iter().any(|x| same_params(*x, e))
 }
 
-// 8, 17, 9 and 10 of the entry e, which starts at that byte.
+// Refusals 8, 17, 9 and 10 of the entry e, which starts at the byte `start`.
 #[tactic(auto, unfolding(crate::specs::Refusals::entry_fault))]
 fn entry_fault(earlier: &[Entry], e: Entry, start: usize, mask: u8) -> Result<(), Fault>
     requires { start < 2048 }
@@ -101,7 +101,7 @@ fn entry_fault(earlier: &[Entry], e: Entry, start: usize, mask: u8) -> Result<()
     Ok(())
 }
 
-// 8, 17, 9 and 10 of the entries of a book of that version, entry by entry.
+// Refusals 8, 17, 9 and 10 of the entries of a book of that version, entry by entry.
 #[tactic(auto, using(crate::proofs::Entries::run_at), unfolding(crate::specs::Refusals::each_fault))]
 pub(crate) fn entries_fault(version: u16, es: &[Entry], mask: u8) -> Result<(), Fault>
     requires { length es.now ≤ most_entries }

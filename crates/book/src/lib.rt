@@ -113,7 +113,7 @@ const NO_BOOK: Book = Book {
     entries: NO_ENTRIES,
 };
 
-// The verdict's number: 0 for an accepted book.
+// The verdict's number: 0 for an accepted book, as its promise has it, and so for the offset.
 pub fn number(v: Result<(), Fault>) -> u8
     ensures { result ≡ number_of v }
 {
@@ -144,7 +144,7 @@ fn checked(s: &[u8]) -> Result<Book, Fault>
     Ok(book)
 }
 
-// The book of s, or the number that refuses it and the offset of the first offending byte.
+// The book of s, or its refusal and the offset of the first offending byte.
 #[tactic(auto, unfolding(crate::specs::Reading::read_book))]
 pub fn read_book(s: &[u8]) -> BookRead
     ensures value { result ≡ read_book s.now }
@@ -163,7 +163,8 @@ pub fn read_book(s: &[u8]) -> BookRead
     }
 }
 
-// Entry i's seven bytes of s themselves, or an empty part for a refused book or an i not below n.
+// Entry i's seven bytes of s themselves, or an empty part for a refused book or an i not below n: no option, since the promise says where
+// in s an empty part stands, too.
 pub fn entry_part(s: &[u8], i: usize) -> &[u8]
     ensures result_value { result.now ≡ entry_part s.now i }
     ensures place { result.ref_ptr ≡ (s.entry.ref_ptr.0, s.entry.ref_ptr.1 + part_at s.now i) }

@@ -1,5 +1,6 @@
 // What a person is told of a book: the first fault, or what the book says, line by line. Functions of a text and not methods, since the
-// type is another crate's; a number that is told fits 16 bits, as each `requires` says.
+// type is another crate's, and a trait would have each twice, declared and made; a number that is told fits 16 bits, as each `requires`
+// says.
 #![tactic(auto)]
 
 ghost use Rattle.std.specs.Prelude.{◌≡◌, true, ◌^◌, ◌<◌, min, length};
@@ -47,6 +48,7 @@ fn fault_at(f: Fault) -> Text
         .word(b": ")
 }
 
+// Its answer and its buffer in a clause each, here and below: one definition for both would be read in place of two equations.
 fn refused(f: Fault, out: &mut [u8]) -> usize
     requires { f.offset < 2 ^ 16 }
     ensures value { result ≡ min (length (refused_line f)) (length out.old) }
@@ -115,6 +117,7 @@ fn accepted(b: Book, out: &mut [u8]) -> usize
     ensures value { result ≡ min (length (accepted_lines b)) (length out.old) }
     ensures out_after { out.new ≡ over (accepted_lines b) out.old }
 {
+    // the place that `put` promises, from one line to the next
     let mut at = header_lines(b).put(out, 0);
     let entries = &b.entries[..usize::from(b.n)];
     for (i, e) in entries.iter().enumerate() {

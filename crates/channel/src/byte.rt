@@ -6,7 +6,7 @@ ghost use Rattle.channel.specs.Bytes.{byte, signalling, sd_byte, dl_byte, dh_byt
 #[derive(Clone, Copy, PartialEq, Eq, Debug)]
 pub struct ChannelByte(pub u8);
 
-// The leads s0 to s3.
+// The leads s0 to s3, each by its name, as the definitions take them.
 #[derive(Clone, Copy, PartialEq, Eq, Debug)]
 pub struct Leads {
     pub s0: bool,

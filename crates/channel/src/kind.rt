@@ -29,7 +29,8 @@ fn kind_number(b: u8) -> u8
     row[usize::from(b % 16)]
 }
 
-// The leads that an Sd byte carries.
+// The leads that an Sd byte carries, in its upper bits; a script's byte has them in its lower ones. One function for both would be public,
+// with a promise and edits, for four lines.
 #[tactic(auto, unfolding(crate::specs::Kinds::leads_in))]
 fn leads_in(b: u8) -> Leads
     ensures { result ≡ leads_in b }

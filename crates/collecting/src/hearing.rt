@@ -49,7 +49,7 @@ fn last_due(count: u8) -> bool
 fn copy_of(low: u8, high: u8) -> u8
     ensures { result ≡ (low + 16 * high) % 256 }
 {
-    ((u16::from(low) + 16 * u16::from(high)) % 256) as u8
+    high.wrapping_mul(16).wrapping_add(low)
 }
 
 // The value is the majority of the three copies bit by bit.
@@ -67,6 +67,7 @@ fn value_of(nibbles: [u8; 6]) -> u8
 fn awaiting(h: Hearing, awaited: Awaited, nibbles: [u8; 6]) -> Hearing
     ensures { result ≡ awaiting h awaited nibbles }
 {
+    // by a variable: straight from field to field the check does not cover an array
     let values = h.values;
     Hearing {
         awaited,

@@ -10,6 +10,7 @@ pub fn originates(b: Book) -> bool
     b.role == ORIGINATING
 }
 
+// The entry at place i; past the last one zeros, as the definition has it.
 pub fn entry_of(b: Book, i: u8) -> Entry
     ensures { result ≡ entry_of b i }
 {

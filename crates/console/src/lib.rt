@@ -110,6 +110,7 @@ pub fn tell<W: Write>(to: &mut W, name: &[u8], failure: Failure) -> Text
     line
 }
 
+#[tactic(auto, using(text::proofs::Joined::appended_text), unfolding(crate::specs::Telling::told_of))]
 fn told(name: &[u8], failure: Failure) -> Text
     ensures { result ≡ text (told_of name.now failure) }
 {

@@ -1,14 +1,12 @@
 // One slot of one end, and where the end stands.
 ghost use Rattle.std.specs.Prelude.{◌≡◌};
-ghost use Rattle.protocol.specs.Opened.{shape_of};
 ghost use Rattle.protocol.specs.Ranges.{well_formed};
-ghost use Rattle.protocol.specs.Exchange.{entry_of};
-ghost use Rattle.protocol.specs.Slot.{exchange_of, started, clocked, opens_hearing, exchange_step, open_at, open_step, step_of, offer_fits, offer_allowed, outcome_at, outcome_of, refuses, slot_of};
+ghost use Rattle.protocol.specs.Slot.{exchange_of, started, clocked, opens_hearing, exchange_step, open_at, open_step, step_of, offer_allowed, outcome_of, refuses, slot_of};
 ghost use Rattle.protocol.specs.Answers.{says_outcome, stands_in, says_reply, slot_says};
 ghost use Rattle.protocol.specs.declared.Phase.TheVariants.{Open, Refused};
 ghost use Rattle.endpoint.specs.StepMade.{rest_of, with_book, exchanging_rest, concluded_rest, step_made, quiet_step, passed_by};
 
-use book::{Book, Entry, book_ok};
+use book::{Book, book_ok};
 use channel::byte::ChannelByte;
 use collecting::hearing::NO_NIBBLES;
 use collecting::kept_book::entry_of;
@@ -16,8 +14,8 @@ use exchange::turn::{first_exchange, turn};
 use opened::line::fresh_line;
 use opened::shape::{has_unit, shape_of};
 use protocol::{
-    Awaited, Drive, Endpoint, Exchange, Fate, Hearing, Line, Outcome, Passed, Phase, Sending,
-    Shape, SlotAnswer, SlotRefusal,
+    Awaited, CLOCK, Drive, Endpoint, Exchange, Fate, Hearing, Line, Outcome, Passed, Phase,
+    Sending, SlotAnswer, SlotRefusal,
 };
 use ranges::phase_in;
 use reading::reading;
@@ -116,7 +114,8 @@ impl StepMade {
     }
 }
 
-// An end in the exchange, in a slot.
+// An end in the exchange, in a slot. What is heard and given stay two parameters, here and below, as the public `slot` takes them: a struct
+// would be made once and taken apart at the next call.
 #[derive(Clone, Copy)]
 pub(crate) struct Calling {
     pub(crate) book: Book,
@@ -133,7 +132,7 @@ impl Calling {
         if u32::from(self.slot) + 1 < u32::from(self.book.limit) {
             return Rest::exchanging(self.slot + 1, self.exchange);
         }
-        self.refuses(23)
+        self.refuses(CLOCK)
     }
 
     // Under the number that the phase keeps.
@@ -197,19 +196,6 @@ pub(crate) struct OpenEnd {
 }
 
 impl OpenEnd {
-    fn profile(self) -> Entry
-        ensures { result ≡ entry_of self.end.book self.entry }
-    {
-        entry_of(self.end.book, self.entry)
-    }
-
-    // How its data is laid.
-    fn shape(self) -> Shape
-        ensures { result ≡ shape_of (entry_of self.end.book self.entry) self.version }
-    {
-        shape_of(self.profile(), self.version)
-    }
-
     fn with_line(self, line: Line) -> Rest
         ensures { result ≡ rest_of (open_at self.end self.slot self.version self.entry line) }
     {
@@ -234,7 +220,7 @@ impl OpenEnd {
     fn step(self, heard: ChannelByte, g: Drive) -> StepMade
         ensures { result ≡ step_made (open_step self.end self.slot self.version self.entry self.line heard.0 g) }
     {
-        let shape = self.shape();
+        let shape = shape_of(entry_of(self.end.book, self.entry), self.version);
         let r = reading(shape, self.line.inbound, heard);
         let w = writing(shape, self.line.outbound, g);
         let line = Line {
@@ -246,28 +232,6 @@ impl OpenEnd {
             sent: w.sent,
             delivered: r.delivered,
             taken: w.taken,
-        }
-    }
-
-    // Whether its form has the offered unit.
-    fn has(self, offer: Option<u8>) -> bool
-        ensures { result ≡ offer_fits self.end self.version self.entry offer }
-    {
-        match offer {
-            None => true,
-            Some(u) => has_unit(self.shape(), u),
-        }
-    }
-
-    #[tactic(auto, unfolding(protocol::specs::Slot::outcome_at))]
-    fn outcome(self) -> Outcome
-        ensures { result ≡ outcome_at self.end (Open self.slot self.version self.entry self.line) }
-    {
-        Outcome::Open {
-            version: self.version,
-            profile: self.profile(),
-            slot: self.slot,
-            signals: self.line.inbound.standing,
         }
     }
 }
@@ -341,23 +305,11 @@ fn step(e: Endpoint, heard: ChannelByte, g: Drive) -> StepMade
 fn offer_allowed(e: Endpoint, g: Drive) -> bool
     ensures { result ≡ offer_allowed e g e.phase }
 {
-    match e.phase {
-        Phase::Open {
-            slot,
-            version,
-            entry,
-            line,
-        } => {
-            let open = OpenEnd {
-                end: e,
-                slot,
-                version,
-                entry,
-                line,
-            };
-            open.has(g.offer)
+    match (e.phase, g.offer) {
+        (Phase::Open { version, entry, .. }, Some(u)) => {
+            has_unit(shape_of(entry_of(e.book, entry), version), u)
         }
-        Phase::Exchanging { .. } | Phase::Refused { .. } => true,
+        _ => true,
     }
 }
 
@@ -374,16 +326,12 @@ pub fn outcome(e: Endpoint) -> Outcome
             version,
             entry,
             line,
-        } => {
-            let open = OpenEnd {
-                end: e,
-                slot,
-                version,
-                entry,
-                line,
-            };
-            open.outcome()
-        }
+        } => Outcome::Open {
+            version,
+            profile: entry_of(e.book, entry),
+            slot,
+            signals: line.inbound.standing,
+        },
         Phase::Refused { number, slot } => Outcome::Refused { number, slot },
     }
 }

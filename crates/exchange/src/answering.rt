@@ -4,7 +4,7 @@ ghost use Rattle.protocol.specs.Exchange.{settles, chosen_answering, answered, o
 
 use crate::acting::settles;
 use collecting::hearing::{awaits_hail, has_all};
-use protocol::{Exchange, Fate, Sending};
+use protocol::{Exchange, Fate, NO_PROFILE, Sending};
 
 // The identifier is voted in this slot, and no version is shared.
 pub(crate) fn settles_none(x: Exchange, y: Exchange) -> bool
@@ -15,11 +15,11 @@ pub(crate) fn settles_none(x: Exchange, y: Exchange) -> bool
 
 // Sgvi until 16 contiguous Sgvi have come, from that slot the identifier, then Sdidle; from the slot that completes p4 the parameters.
 #[tactic(auto, unfolding(protocol::specs::Exchange::chosen_answering))]
-pub(crate) fn chosen_answering(y: Exchange, s: Sending) -> Sending
-    ensures { result ≡ chosen_answering y s }
+pub(crate) fn chosen_answering(y: Exchange) -> Sending
+    ensures { result ≡ chosen_answering y y.sending }
 {
     let awaited = y.hearing.awaited;
-    match s {
+    match y.sending {
         Sending::Idle => {
             if has_all(awaited) {
                 Sending::Parameters(0)
@@ -34,7 +34,7 @@ pub(crate) fn chosen_answering(y: Exchange, s: Sending) -> Sending
                 Sending::Mask(0)
             }
         }
-        Sending::Mask(_) | Sending::Parameters(_) | Sending::Done => s,
+        Sending::Mask(_) | Sending::Parameters(_) | Sending::Done => y.sending,
     }
 }
 
@@ -53,6 +53,6 @@ pub(crate) fn opens_on(m: Option<u8>) -> Fate
 {
     match m {
         Some(i) => Fate::OpensSending(i),
-        None => Fate::Refuses(22),
+        None => Fate::Refuses(NO_PROFILE),
     }
 }

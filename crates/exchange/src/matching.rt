@@ -6,12 +6,13 @@ use book::{Book, Entry};
 use collecting::kept_book::{entry_of, left_out};
 use protocol::{Exchange, Hearing};
 
-// p0 to p4 of the other end, after its identifier.
+// p0 to p4 of the other end, after its identifier. Each by name: a `..` in the pattern would copy a part of an array, which the check does
+// not cover.
 pub(crate) fn heard_params(h: Hearing) -> [u8; 5]
     ensures { result ≡ heard_params h }
 {
-    let values = h.values;
-    [values[1], values[2], values[3], values[4], values[5]]
+    let [_, p0, p1, p2, p3, p4] = h.values;
+    [p0, p1, p2, p3, p4]
 }
 
 // The entry's five parameters are the values.
@@ -28,7 +29,7 @@ fn matches(version: u8, e: Entry, values: [u8; 5]) -> bool
     !left_out(version, e) & has_params(e, values)
 }
 
-// The entry that has the other end's parameters, on the version settled.
+// The place of the entry that has the other end's parameters, on the version settled.
 fn matched(b: Book, version: u8, h: Hearing) -> Option<u8>
     ensures { result ≡ matched b version h }
 {
@@ -41,7 +42,8 @@ fn matched(b: Book, version: u8, h: Hearing) -> Option<u8>
     None
 }
 
-// A book, the exchange once the byte has acted, and the entry matched then: gone over once, for the values sent and for the fate.
+// A book, the exchange once the byte has acted, and the entry matched then: the entries are gone over once, for the values sent and for
+// the fate.
 #[derive(Clone, Copy)]
 pub(crate) struct Acted {
     pub(crate) book: Book,

@@ -36,7 +36,7 @@ fn sgp(k: u16) -> ChannelByte
     }
 }
 
-// Parameter k of five; 0 for any k above.
+// Parameter k of five; 0 for any k above, as the definition has it.
 fn value_at(values: [u8; 5], k: u16) -> u8
     ensures { result ≡ get_or values k 0 }
 {

@@ -1,4 +1,5 @@
-// One slot of the exchange, answering and originating, but for the clock.
+// One slot of the exchange, answering and originating, but for the clock. What is sent is chosen from what was acted, and so stays beside
+// it.
 ghost use Rattle.std.specs.Prelude.{◌≡◌, cond};
 ghost use Rattle.channel.specs.Bytes.{byte, sdidle};
 ghost use Rattle.protocol.specs.Exchange.{originates, first_exchange, fate_heard, chosen, fate_sent, sends, turn};
@@ -17,7 +18,7 @@ use channel::byte::ChannelByte;
 use channel::kind::Kind;
 use collecting::hearing::NO_NIBBLES;
 use collecting::kept_book::originates;
-use protocol::{Awaited, Exchange, Fate, Hearing, Sending};
+use protocol::{Awaited, Exchange, Fate, Hearing, NO_VERSION, Sending};
 
 // One slot of the exchange: the state after it, what becomes of the exchange, and the byte sent.
 #[derive(Clone, Copy)]
@@ -56,29 +57,29 @@ pub fn first_exchange(b: Book) -> Exchange
 
 // What the received byte brings about. Answering: no version, 21. Originating: its own all sent and the other's all received.
 #[tactic(auto, unfolding(protocol::specs::Exchange::fate_heard))]
-fn fate_heard(b: Book, x: Exchange, y: Exchange) -> Fate
-    ensures { result ≡ fate_heard b x y }
+fn fate_heard(x: Exchange, y: Acted) -> Fate
+    ensures { result ≡ fate_heard y.book x y.exchange }
 {
-    if originates(b) {
-        if all_exchanged(y) {
-            compared(b, y, Fate::OpensHearing(0))
+    if originates(y.book) {
+        if all_exchanged(y.exchange) {
+            compared(y, Fate::OpensHearing(0))
         } else {
             Fate::Stays
         }
-    } else if settles_none(x, y) {
-        Fate::Refuses(21)
+    } else if settles_none(x, y.exchange) {
+        Fate::Refuses(NO_VERSION)
     } else {
         Fate::Stays
     }
 }
 
-fn chosen(b: Book, y: Exchange) -> Sending
-    ensures { result ≡ chosen b y }
+fn chosen(y: Acted) -> Sending
+    ensures { result ≡ chosen y.book y.exchange }
 {
-    if originates(b) {
-        chosen_originating(y, y.sending)
+    if originates(y.book) {
+        chosen_originating(y.exchange)
     } else {
-        chosen_answering(y, y.sending)
+        chosen_answering(y.exchange)
     }
 }
 
@@ -89,9 +90,9 @@ fn fate_sent(y: Acted, s: Sending) -> Fate
 {
     if originates(y.book) {
         if last_of_zero_mask(y.exchange, s) {
-            Fate::Refuses(21)
-        } else if last_exchanged(y.book, y.exchange, s) {
-            compared(y.book, y.exchange, Fate::OpensSending(0))
+            Fate::Refuses(NO_VERSION)
+        } else if last_exchanged(y, s) {
+            compared(y, Fate::OpensSending(0))
         } else {
             Fate::Stays
         }
@@ -104,17 +105,16 @@ fn fate_sent(y: Acted, s: Sending) -> Fate
 
 // A byte is sent.
 #[tactic(auto, unfolding(protocol::specs::Exchange::sends))]
-fn sends(b: Book, y: Exchange, s: Sending) -> TurnMade
-    ensures { result ≡ made (sends b y s) }
+fn sends(y: Acted, s: Sending) -> TurnMade
+    ensures { result ≡ made (sends y.book y.exchange s) }
 {
-    let acted = Acted::new(b, y);
     TurnMade {
         exchange: Exchange {
-            sending: advanced(b, s),
-            ..y
+            sending: advanced(y.book, s),
+            ..y.exchange
         },
-        fate: fate_sent(acted, s),
-        sent: byte_sent(acted, s),
+        fate: fate_sent(y, s),
+        sent: byte_sent(y, s),
     }
 }
 
@@ -134,10 +134,10 @@ fn ended(y: Exchange, fate: Fate) -> TurnMade
 pub fn turn(b: Book, x: Exchange, k: Kind) -> TurnMade
     ensures { result ≡ made (turn b x k) }
 {
-    let y = acted(b, x, k);
-    let fate = fate_heard(b, x, y);
+    let y = Acted::new(b, acted(b, x, k));
+    let fate = fate_heard(x, y);
     match fate {
-        Fate::Stays => sends(b, y, chosen(b, y)),
-        Fate::OpensHearing(_) | Fate::OpensSending(_) | Fate::Refuses(_) => ended(y, fate),
+        Fate::Stays => sends(y, chosen(y)),
+        Fate::OpensHearing(_) | Fate::OpensSending(_) | Fate::Refuses(_) => ended(y.exchange, fate),
     }
 }

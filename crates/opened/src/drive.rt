@@ -7,6 +7,7 @@ use crate::line::idle_leads;
 use channel::byte::Leads;
 use protocol::Drive;
 
+// A function and no literal: public, with a promise and edits of its own.
 pub fn drive_with(leads: Leads, flag: bool, offer: Option<u8>) -> Drive
     ensures { result ≡ drive_with leads flag offer }
 {

@@ -5,7 +5,7 @@ ghost use Rattle.protocol.specs.Opened.{outbound_of, inbound_of, idle_leads, idl
 use channel::byte::Leads;
 use protocol::{Claim, Inbound, Line, Outbound, Signals};
 
-// The sending half.
+// The sending half. A function and no literal, as `inbound_of` is: public, with a promise and edits of its own.
 pub fn outbound_of(
     opening: u8,
     due: Option<u8>,

@@ -24,7 +24,8 @@ pub enum Refusal {
     NoRoom,
 }
 
-// Packs the octets src into units of form bits, which go into out from the place at on. The form is a number, since any is answered.
+// Packs the octets src into units of form bits, which go into out from the place at on. The form is a number, and the place stands beside
+// the buffer, here and below, since any form and any place is answered: 15, 14.
 #[tactic(auto, unfolding(crate::specs::NumbersOfRefusal::pack_refusal))]
 pub fn pack(form: u8, src: &[u8], out: &mut [u8], at: usize) -> Result<usize, Refusal>
     ensures { Packs form src.now out.old at result out.new }

@@ -78,6 +78,7 @@ impl<'a> Numbers<'a> {
                     have = b.bits;
                 }
             }
+            // a base is 256 at the most, so what is left fits
             *d = (acc % base) as u8;
             acc /= base;
             have -= b.bits;

@@ -33,6 +33,7 @@ pub enum NotJoined {
     WrongRole,
 }
 
+// The two ends are made one, a `Pair`, where they run.
 fn right_roles(o: Endpoint, a: Endpoint) -> bool
     ensures { result ≡ right_roles o.book a.book }
 {

@@ -1,4 +1,5 @@
-// What the join program prints for an input. Functions of a text and not methods, since the type is another crate's.
+// What the join program prints for an input. Functions of a text and not methods, since the type is another crate's, and a trait would have
+// each twice, declared and made.
 ghost use Rattle.std.specs.Prelude.{◌≡◌};
 ghost use Rattle.text.specs.Text.{text, appended};
 ghost use Rattle.pair.specs.Report.{open_line, refused_line, end_line, at_fault, lines_of, join_says};
@@ -10,11 +11,10 @@ use text::Text;
 
 const BOOK_LENGTH: usize = 17;
 
-const LEAST_BYTES: usize = 18;
-
 const MOST_BYTES: usize = 84;
 
 // A profile and the slot in which the end opened on it.
+#[tactic(auto, using(text::proofs::Joined::appended_append), unfolding(crate::specs::Report::open_line))]
 fn open_line(t: Text, version: u8, profile: Entry, slot: u16) -> Text
     ensures { result ≡ appended t (open_line version profile slot) }
 {
@@ -24,6 +24,7 @@ fn open_line(t: Text, version: u8, profile: Entry, slot: u16) -> Text
 }
 
 // The number is that of an outcome.
+#[tactic(auto, using(text::proofs::Joined::appended_append), unfolding(crate::specs::Report::refused_line))]
 fn refused_line(t: Text, number: u8, slot: u16) -> Text
     ensures { result ≡ appended t (refused_line number slot) }
 {
@@ -59,6 +60,7 @@ fn at_fault(t: Text, refusal: Refusal) -> Text
         .word(b"\n")
 }
 
+#[tactic(auto, using(text::proofs::Joined::appended_text), unfolding(crate::specs::Report::lines_of))]
 fn lines(j: Result<Concluded, NotJoined>) -> Text
     ensures { result ≡ text (lines_of j) }
 {
@@ -71,16 +73,20 @@ fn lines(j: Result<Concluded, NotJoined>) -> Text
     }
 }
 
-// The input: the originator's book, the answerer's, one delay byte, at the places that document 01 gives.
+// The input: the originator's book, the answerer's, one delay byte, at the places that document 01 gives. Fewer than 18 bytes do not hold
+// the first book and a delay.
+#[tactic(auto, using(crate::proofs::Reported::parts), unfolding(crate::specs::Report::join_says))]
+fn joining(s: &[u8]) -> Result<Concluded, NotJoined>
+    ensures { lines_of result ≡ join_says s.now }
+{
+    match s.split_at_checked(BOOK_LENGTH) {
+        Some((o, [a @ .., delay])) if s.len() <= MOST_BYTES => join(o, a, *delay),
+        _ => Err(NotJoined::InputRefused),
+    }
+}
+
 pub fn report(s: &[u8]) -> Text
     ensures { result ≡ text (join_says s.now) }
 {
-    if s.len() < LEAST_BYTES {
-        return lines(Err(NotJoined::InputRefused));
-    }
-    if MOST_BYTES < s.len() {
-        return lines(Err(NotJoined::InputRefused));
-    }
-    let last = s.len() - 1;
-    lines(join(&s[0..BOOK_LENGTH], &s[BOOK_LENGTH..last], s[last]))
+    lines(joining(s))
 }

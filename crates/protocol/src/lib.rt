@@ -1,4 +1,4 @@
-// The types of one end of a call. No code but the numbers of a slot's refusal: what a slot does is defined in specs/.
+// The types of one end of a call. No code but the numbers of refusal: what a slot does is defined in specs/.
 #![tactic(auto)]
 
 ghost use Rattle.std.specs.Prelude.{◌≡◌};
@@ -8,7 +8,15 @@ use book::{Book, Entry, Fault};
 use channel::byte::{ChannelByte, Leads};
 use channel::unit::Form;
 
-// What is awaited in the exchange. Item 0 is the identifier, item k + 1 is parameter k: items are counted on, so they are numbers.
+// Why a call is refused: the numbers that a refused end keeps.
+pub const NO_VERSION: u8 = 21;
+
+pub const NO_PROFILE: u8 = 22;
+
+pub const CLOCK: u8 = 23;
+
+// What is awaited in the exchange. Item 0 is the identifier, item k + 1 is parameter k: numbers, since 13 refuses a stored state with an
+// item above 5.
 #[derive(Clone, Copy, PartialEq, Eq, Debug)]
 pub enum Awaited {
     // the run for an item, of which so many bytes have come
@@ -92,12 +100,13 @@ pub struct Line {
 }
 
 // One phase at a time. The slot of the exchange is the number of slots since the start; of an open or refused end, the slot in
-// which it opened or refused.
+// which it opened or refused. What an open end has stands in fields, which the definitions and `StaysConcluded` take one by one.
 #[derive(Clone, Copy)]
 pub enum Phase {
     Exchanging {
         slot: u16,
-        // 0 for none, not an option: a stored state may hold any number, and 13 refuses those that its phase can't have
+        // 0 for none, not an option: the definition `highest` gives it so, and 13 refuses a stored number that its phase can't have; an option would have
+        // Some(0) besides
         version: u8,
         awaited: Awaited,
         sending: Sending,
@@ -105,11 +114,12 @@ pub enum Phase {
     Open {
         slot: u16,
         version: u8,
+        // a place among the entries, since 13 refuses a stored state with one past them
         entry: u8,
         line: Line,
     },
     Refused {
-        // a number, not an enum: a stored state may hold any, and 13 refuses all but 21, 22 and 23
+        // a number, not an enum: a stored state may hold any, and 13 refuses all but NO_VERSION, NO_PROFILE and CLOCK
         number: u8,
         slot: u16,
     },
@@ -146,7 +156,7 @@ pub struct Exchange {
 #[derive(Clone, Copy, PartialEq, Eq, Debug)]
 pub enum Fate {
     Stays,
-    // opened by the received byte, or by the own last byte, on an entry
+    // opened by the received byte, or by the own last byte, on an entry, by its place as the phase keeps it
     OpensHearing(u8),
     OpensSending(u8),
     // under the number that the phase keeps: an enum would be turned into it at once

@@ -5,7 +5,7 @@ ghost use Rattle.std.specs.Prelude.{◌≡◌, ◌&&◌, ◌+◌, ◌-◌, ◌*�
 ghost use Rattle.ground.specs.Digits.{bit, all_below};
 ghost use Rattle.channel.specs.Forms.{word_fits};
 ghost use Rattle.protocol.specs.Lengths.{all_parameter_bytes};
-ghost use Rattle.protocol.specs.Ranges.{awaited_in, in_hand, nibbles_in, values_in, behind, answering_in, originating_in, sending_in, is_version, may_lack, version_in, due_in, none_due, claim_in, half_in, outbound_in, inbound_in, refused_in, exchange_in, open_in, phase_in};
+ghost use Rattle.protocol.specs.Ranges.{awaited_in, in_hand, nibbles_in, values_in, behind, answering_in, originating_in, sending_in, is_version, may_lack, version_in, due_in, claim_in, half_in, outbound_in, inbound_in, refused_in, exchange_in, open_in, phase_in};
 
 use book::Book;
 use channel::unit;
@@ -13,7 +13,9 @@ use collecting::hearing::{awaits_hail, has_all, has_identifier, item_of};
 use collecting::kept_book::{entry_of, identifier, left_out, originates};
 use collecting::lengths::{GROUP_LENGTH, IDENTIFIER_RUN, all_parameter_bytes, run_length};
 use opened::shape::{OPENING_SD, has_pair, is_word, opening_bytes, shape_of};
-use protocol::{Awaited, Claim, Inbound, Line, Outbound, Phase, Sending, Shape};
+use protocol::{
+    Awaited, CLOCK, Claim, Inbound, Line, NO_PROFILE, NO_VERSION, Outbound, Phase, Sending, Shape,
+};
 
 // The places of a group, and the values: the identifier and p0 to p4.
 const PLACES: usize = 6;
@@ -117,17 +119,11 @@ fn half_in(s: Shape, half: Option<u8>) -> bool
     }
 }
 
-fn none_due(due: Option<u8>) -> bool
-    ensures { result ≡ none_due due }
-{
-    due.is_none()
-}
-
 // A second Sd is due, or a unit owed the line, in forms 0 and 6 alone, after the 16 Sd, and while no DH is due.
 fn claim_in(s: Shape, opening: u8, due: Option<u8>, claim: Claim) -> bool
     ensures { result ≡ claim_in s opening due claim }
 {
-    let may = !has_pair(s) & (OPENING_SD <= opening) & none_due(due);
+    let may = !has_pair(s) & (OPENING_SD <= opening) & due.is_none();
     match claim {
         Claim::Free => true,
         Claim::Second(_) | Claim::Owed => may,
@@ -163,7 +159,8 @@ fn is_last(slot: u16, limit: u16) -> bool
 fn refused_in(b: Book, number: u8, slot: u16) -> bool
     ensures { result ≡ refused_in b number slot }
 {
-    (slot < b.limit) & (matches!(number, 21 | 22) | ((number == 23) & is_last(slot, b.limit)))
+    (slot < b.limit)
+        & (matches!(number, NO_VERSION | NO_PROFILE) | ((number == CLOCK) & is_last(slot, b.limit)))
 }
 
 // An end in the exchange, but for what it has collected.

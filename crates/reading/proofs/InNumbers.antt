@@ -82,7 +82,3 @@ module _ (i : Inbound) where
 pub says_delivers : (s : Shape) (i : Inbound) (b : ℕ) {r : ReadingMade} → r ≡ reading_made (reading s i b)
     → says_delivered r.delivered ≡ delivers_of s i b
 says_delivers s i b p = ap (λ (r : ReadingMade). says_delivered r.delivered) p ∙ delivers i s b
-
-pub replies : (s : Shape) (i : Inbound) (b : ℕ) {r : ReadingMade} → r ≡ reading_made (reading s i b)
-    → (r ≡ reading_made (reading s i b)) × (says_delivered r.delivered ≡ delivers_of s i b)
-replies s i b p = (p, says_delivers s i b p)

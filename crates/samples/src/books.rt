@@ -1,10 +1,5 @@
 // The books of the samples.
 
-// One entry 01 02 03 04 05, form 7, w 0.
-pub(crate) const ANSWERER: [u8; 17] = [
-    b'T', b'L', b'B', 0, 1, 1, 3, 1, 244, 1, 1, 2, 3, 4, 5, 7, 0,
-];
-
 pub(crate) const EIGHT: [u8; 66] = [
     b'T', b'L', b'B', 0, 1, 1, 3, 1, 244, 8, 1, 2, 3, 4, 5, 7, 0, 2, 2, 3, 4, 5, 7, 0, 3, 2, 3, 4,
     5, 7, 0, 4, 2, 3, 4, 5, 7, 0, 5, 2, 3, 4, 5, 7, 0, 6, 2, 3, 4, 5, 7, 0, 7, 2, 3, 4, 5, 7, 0, 8,
@@ -25,7 +20,7 @@ pub(crate) const NO_RUN: [u8; 17] = [
 
 pub(crate) const RUN: [u8; 16] = [0x57; 16];
 
-// A book of one entry.
+// An answerer's book of one entry, 01 02 03 04 05 of form 7.
 pub(crate) fn one(limit: u16) -> [u8; 17] {
     let [high, low] = limit.to_be_bytes();
     [
@@ -59,7 +54,7 @@ pub(crate) fn called_on_second(mask_o: u8, form_o: u8) -> [u8; 42] {
     ]
 }
 
-// An answerer's two entries, the second of this form and word length.
+// An answerer's two entries, the second of this form and word length: two bytes of an entry, as a book has them.
 pub(crate) fn two(form: u8, w: u8) -> [u8; 24] {
     [
         b'T', b'L', b'B', 0, 1, 1, 3, 1, 244, 2, 1, 2, 3, 4, 5, 7, 0, 1, 2, 3, 4, 6, form, w,

@@ -8,14 +8,29 @@ use opened::line::fresh_line;
 use protocol::{Endpoint, Phase, SlotAnswer};
 use text::Text;
 
-// Leads s0 to s3 in bits 0 to 3, slot by slot, the first 16 with the Sd of the opening: DTR, which is s3, drops.
-pub(crate) const DROPS: [u8; 22] = [
-    12, 12, 12, 12, 12, 12, 12, 12, 12, 12, 12, 12, 12, 12, 12, 12, 12, 12, 4, 4, 4, 4,
+// The leads with DTR, which is s3, on and off.
+const UP: Leads = Leads {
+    s0: false,
+    s1: false,
+    s2: true,
+    s3: true,
+};
+
+const DOWN: Leads = Leads {
+    s0: false,
+    s1: false,
+    s2: true,
+    s3: false,
+};
+
+// The leads slot by slot, the first 16 with the Sd of the opening: DTR drops.
+pub(crate) const DROPS: [Leads; 22] = [
+    UP, UP, UP, UP, UP, UP, UP, UP, UP, UP, UP, UP, UP, UP, UP, UP, UP, UP, DOWN, DOWN, DOWN, DOWN,
 ];
 
 // DTR chatters.
-pub(crate) const CHATTERS: [u8; 22] = [
-    12, 12, 12, 12, 12, 12, 12, 12, 12, 12, 12, 12, 12, 12, 12, 12, 4, 12, 4, 12, 4, 12,
+pub(crate) const CHATTERS: [Leads; 22] = [
+    UP, UP, UP, UP, UP, UP, UP, UP, UP, UP, UP, UP, UP, UP, UP, UP, DOWN, UP, DOWN, UP, DOWN, UP,
 ];
 
 const OPENING: usize = 16;
@@ -34,19 +49,9 @@ fn opened(form: u8, w: u8) -> Endpoint {
     }
 }
 
-// As a script's byte has them; to share these lines `script` would have to make its own public.
-fn leads(bits: u8) -> Leads {
-    Leads {
-        s0: bits % 2 == 1,
-        s1: bits / 2 % 2 == 1,
-        s2: bits / 4 % 2 == 1,
-        s3: bits / 8 % 2 == 1,
-    }
-}
-
 // A slot with these leads: Sdidle is heard, and the unit 21 hex offered.
-fn offered(e: Endpoint, bits: u8) -> SlotAnswer {
-    let drive = drive_with(leads(bits), false, Some(0x21));
+fn offered(e: Endpoint, leads: Leads) -> SlotAnswer {
+    let drive = drive_with(leads, false, Some(0x21));
     slot(e, ChannelByte::SDIDLE, drive)
 }
 
@@ -63,11 +68,11 @@ fn heading() -> Text {
 }
 
 // What goes after the opening.
-pub(crate) fn sends(form: u8, w: u8, given: &[u8]) -> Text {
+pub(crate) fn sends(form: u8, w: u8, given: &[Leads]) -> Text {
     let mut e = opened(form, w);
     let mut t = heading();
-    for (i, &bits) in given.iter().enumerate() {
-        let answer = offered(e, bits);
+    for (i, &leads) in given.iter().enumerate() {
+        let answer = offered(e, leads);
         t = told(t, i, sent(answer.reply));
         e = answer.state;
     }

@@ -86,7 +86,7 @@ pub(crate) fn sent(r: Reply) -> u8 {
 
 // What an answering end sends in the slot in which the last of these bytes comes.
 fn sent_after(heard: &[u8]) -> Text {
-    let mut e = start(&books::ANSWERER).state;
+    let mut e = start(&books::one(500)).state;
     let mut last = 0;
     for &byte in heard {
         let answer = slot(e, ChannelByte(byte), idle());
@@ -110,6 +110,7 @@ fn place(s: &[u8]) -> Text {
         Ok(()) => Text::new().word(b"accepted\n"),
         Err(fault) => refused_by(fault.refusal)
             .word(b" at byte ")
+            // it fits, as the offset of any book's fault does
             .decimal(fault.offset as u16)
             .word(b"\n"),
     }
@@ -125,7 +126,8 @@ fn joined(mask_o: u8, mask_a: u8, limit: u16, delay: u8) -> Text {
     report(&books::pair(mask_o, 7, mask_a, 7, limit, delay))
 }
 
-// Each of these functions has the samples of one rule: they differ in what is run and said alone.
+// Each of these functions has the samples of one rule: its calls of `show`, apart so that no function is long. An array of them, gone
+// over by a loop, would be as long.
 fn runs<W: Write>(out: &mut W) -> io::Result<()> {
     show(
         out,

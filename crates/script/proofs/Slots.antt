@@ -1,12 +1,15 @@
--- The slots of a script, three bytes each, as the code walks over them. Assumes nothing.
+-- The slots of a script, three bytes each. Assumes nothing.
 use mathlib.Core.Path.{◌≡◌, refl}
 use mathlib.Core.Bool.{Bool, true, false, not, ◌||◌, true≢false}
 use mathlib.Core.List.{List, [], ◌∷◌}
-use Prim.Native.Nat.{ℕ, suc, ◌+◌, ◌-◌, ◌≤◌, ◌<◌}
+use Prim.Native.Nat.{ℕ, suc, ◌+◌, ◌/◌, ◌%◌, ◌≤◌}
 use native.Mathlib.Omega.{arith}
 use lib.Dec.{eqb}
-use lib.ListN.{length, take, drop, get_or, length-drop}
-use lib.Seq.{drop-cons, take-length}
+use lib.ListN.{length, drop, get_or}
+use lib.Seq.{drop-cons}
+use Rattle.std.specs.List.{list_any}
+use Rattle.std.specs.Simd.{first_chunks}
+use Rattle.std.proofs.Math.Bool.{or_assoc}
 use Rattle.script.specs.Input.{is_stray, slots_fault}
 
 -- the three bytes of a slot
@@ -25,34 +28,14 @@ pub or_right : (a b : Bool) → (a || b) ≡ false → b ≡ false
 or_right true b e = absurd (true≢false e)
 or_right false b e = e
 
--- a slot, then the others
-pub fault_here : (xs : List ℕ) → 3 ≤ length xs → slots_fault xs ≡ (is_stray (get_or xs 1 0) || slots_fault (drop 3 xs))
+-- a slot is stray, or something is left over
+pub fault_by_slots : (xs : List ℕ)
+    → slots_fault xs ≡ (list_any (λ s. is_stray (get_or s 1 0)) (first_chunks 3 (length xs / 3) xs) || not (eqb (length xs % 3) 0))
 unfolding slots_fault
-fault_here [] h = absurd (omega arith)
-fault_here (x ∷ []) h = absurd (omega arith)
-fault_here (x ∷ y ∷ []) h = absurd (omega arith)
-fault_here (x ∷ y ∷ z ∷ xs) h = refl
-
--- what is left of a slot is cut
-pub fault_at_end : (xs : List ℕ) → length xs < 3 → slots_fault xs ≡ not (eqb (length xs) 0)
-unfolding slots_fault
-fault_at_end [] h = refl
-fault_at_end (x ∷ []) h = refl
-fault_at_end (x ∷ y ∷ []) h = refl
-fault_at_end (x ∷ y ∷ z ∷ xs) h = absurd (omega arith)
-
-pub rest_fine : (xs : List ℕ) → slots_fault xs ≡ false → 3 ≤ length xs → slots_fault (drop 3 xs) ≡ false
-rest_fine xs ok h = or_right (is_stray (get_or xs 1 0)) (slots_fault (drop 3 xs)) (rw (fault_here xs h) at ok)
-
-pub none_left : (xs : List ℕ) → slots_fault xs ≡ false → length xs < 3 → xs ≡ []
-unfolding slots_fault
-none_left [] ok h = refl
-none_left (x ∷ []) ok h = absurd (true≢false ok)
-none_left (x ∷ y ∷ []) ok h = absurd (true≢false ok)
-none_left (x ∷ y ∷ z ∷ xs) ok h = absurd (omega arith)
-
--- the other slots, as a slice's pattern names them
-pub others : (xs : List ℕ) → take (length xs - 3) (drop 3 xs) ≡ drop 3 xs
-others xs = rw (← length-drop 3 xs) (take-length (drop 3 xs))
-
-pub ruleset slots_walked = (fault_here, fault_at_end, others)
+fault_by_slots [] = refl
+fault_by_slots (x ∷ []) = refl
+fault_by_slots (x ∷ y ∷ []) = refl
+fault_by_slots (x ∷ y ∷ z ∷ xs) =
+    let count : suc (suc (suc (length xs))) / 3 ≡ suc (length xs / 3) = omega arith in
+    let left : suc (suc (suc (length xs))) % 3 ≡ length xs % 3 = omega arith in
+    rw (count, left, fault_by_slots xs) (simp or_assoc)

@@ -1,5 +1,6 @@
 // A script: a 16-bit big-endian book length, the book, then three bytes a slot.
-ghost use Rattle.std.specs.Prelude.{◌≡◌, ◌↔◌, ◌/◌, ◌%◌, ◌≤◌, ◌<◌, false, eqb, length, IsTrue, IsNone, IfSome};
+ghost use Rattle.std.specs.Prelude.{◌≡◌, ◌↔◌, ◌/◌, ◌%◌, ◌≤◌, ◌<◌, false, eqb, length, get_or, IsTrue, IsNone, IfSome};
+ghost use Rattle.std.specs.List.{list_any};
 ghost use Rattle.script.specs.Input.{most_bytes, book_in, slots_in, is_stray, slots_fault, script_fault, drive_of};
 
 use channel::byte::Leads;
@@ -27,6 +28,7 @@ fn is_stray(flags: u8) -> bool
 pub(crate) fn drive(flags: u8, unit: u8) -> Drive
     ensures { result ≡ drive_of flags unit }
 {
+    // four bits, as `channel` lays those of an Sd from its upper ones: one function for both would be public, with a promise and edits
     let leads = Leads {
         s0: is_on(flags, 1),
         s1: is_on(flags, 2),
@@ -36,20 +38,20 @@ pub(crate) fn drive(flags: u8, unit: u8) -> Drive
     drive_with(leads, is_on(flags, 16), is_on(flags, 32).then_some(unit))
 }
 
+// Whether one of the slots has bit 6 or 7 on.
+fn has_stray(slots: &[[u8; 3]]) -> bool
+    ensures { result ≡ list_any (λ s. is_stray (get_or s 1 0)) slots.now }
+{
+    slots.iter().any(|[_, flags, _]| is_stray(*flags))
+}
+
 // Whether the slots are cut, or one of them has bit 6 or 7 on.
-#[tactic(auto, using(crate::proofs::Slots::slots_walked))]
+#[tactic(auto, using(crate::proofs::Slots::fault_by_slots))]
 fn slots_fault(slots: &[u8]) -> bool
     ensures { result ≡ slots_fault slots.now }
 {
-    // a `while let`, since what is left over at the end is a fault
-    let mut rest = slots;
-    while let [_, flags, _, tail @ ..] = rest {
-        if is_stray(*flags) {
-            return true;
-        }
-        rest = tail;
-    }
-    !rest.is_empty()
+    let (slots, rest) = slots.as_chunks::<3>();
+    !rest.is_empty() || has_stray(slots)
 }
 
 // The parts of a script without fault.
@@ -57,7 +59,6 @@ fn slots_fault(slots: &[u8]) -> bool
 pub(crate) struct Script<'a> {
     pub(crate) book: &'a [u8],
     pub(crate) slots: &'a [u8],
-    ghost no_fault: { slots_fault slots.now ≡ false },
     ghost short: { length slots.now ≤ most_bytes },
 }
 

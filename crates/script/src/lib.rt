@@ -24,6 +24,7 @@ fn input_refused() -> Text
     Text::new().word(b"input refused\n")
 }
 
+#[tactic(auto, using(text::proofs::Joined::appended_text), unfolding(crate::specs::Output::book_refused))]
 fn book_refused(refusal: Refusal) -> Text
     ensures { result ≡ text (book_refused refusal) }
 {
@@ -33,24 +34,22 @@ fn book_refused(refusal: Refusal) -> Text
         .word(b"\n")
 }
 
-// The lines of the slots.
+// The lines of the slots. Its answer and its buffer in a clause each, as `run` has them: one definition for both would be read in place of
+// two equations.
 fn lines(script: Script, begun: Endpoint, out: &mut [u8]) -> usize
     ensures value { result ≡ min (length (lines_from 0 begun script.entry.slots.now)) (length out.old) }
     ensures out_after { out.new ≡ over (lines_from 0 begun script.entry.slots.now) out.old }
 {
     let mut e = begun;
-    let mut place: u16 = 0;
     // the place that `put` promises, from one line to the next: a struct of buffer and place is no plainer
     let mut at: usize = 0;
-    // by a pattern of three bytes, which needs no index; the place counts the slots, for it is printed
-    let mut rest = script.slots;
-    while let [heard, flags, unit, tail @ ..] = rest {
+    // nothing is left over, since `script_in` gives no slots that are cut
+    let (slots, _) = script.slots.as_chunks::<3>();
+    for (place, [heard, flags, unit]) in (0u16..).zip(slots) {
         let answer = slot(e, ChannelByte(*heard), input::drive(*flags, *unit));
         let told = line::line(place, outcome(answer.state), answer.reply);
         at = told.put(out, at);
         e = answer.state;
-        place += 1;
-        rest = tail;
     }
     at
 }

@@ -1,10 +1,9 @@
-// The line of a slot: seven fields parted by one space. Functions of a text and not methods, since the type is another crate's.
+// The line of a slot: seven fields parted by one space. Functions of a text and not methods, since the type is another crate's, and a trait
+// would have each twice, declared and made.
 ghost use Rattle.std.specs.Prelude.{◌≡◌};
-ghost use Rattle.protocol.specs.declared.Outcome.TheVariants.{Open};
 ghost use Rattle.text.specs.Text.{text, appended};
 ghost use Rattle.script.specs.Line.{space, sent_field, unit_field, delivered_field, taken_field, flag_digit, signal_digits, signals_field, stands_field, detail_field, refusal_note, reply_fields, outcome_fields, line_of};
 
-use book::Entry;
 use protocol::{Outcome, Reply, Signals};
 use text::Text;
 
@@ -68,6 +67,7 @@ fn with_flag(t: Text, on: bool) -> Text
 }
 
 // s3 s2 s1 s0 BK.
+#[tactic(auto, using(text::proofs::Joined::appended_append), unfolding(crate::specs::Line::signal_digits))]
 fn with_signals(t: Text, g: Signals) -> Text
     ensures { result ≡ appended t (signal_digits g) }
 {
@@ -101,17 +101,7 @@ fn with_stands(t: Text, o: Outcome) -> Text
     }
 }
 
-fn with_open(t: Text, version: u8, profile: Entry, slot: u16, signals: Signals) -> Text
-    ensures { result ≡ appended t (detail_field (Open version profile slot signals)) }
-{
-    t.decimal(u16::from(version))
-        .word(b"/")
-        .parameters(profile)
-        .word(b"/")
-        .decimal(slot)
-}
-
-#[tactic(auto, unfolding(crate::specs::Line::detail_field))]
+#[tactic(auto, using(text::proofs::Joined::appended_append), unfolding(crate::specs::Line::detail_field))]
 fn with_detail(t: Text, o: Outcome) -> Text
     ensures { result ≡ appended t (detail_field o) }
 {
@@ -121,8 +111,13 @@ fn with_detail(t: Text, o: Outcome) -> Text
             version,
             profile,
             slot,
-            signals,
-        } => with_open(t, version, profile, slot, signals),
+            ..
+        } => t
+            .decimal(u16::from(version))
+            .word(b"/")
+            .parameters(profile)
+            .word(b"/")
+            .decimal(slot),
         Outcome::Refused { number, slot } => {
             t.decimal(u16::from(number)).word(b"/").decimal(slot)
         }
@@ -139,6 +134,7 @@ fn with_note(t: Text, reply: Reply) -> Text
     }
 }
 
+#[tactic(auto, using(text::proofs::Joined::appended_append), unfolding(crate::specs::Line::reply_fields))]
 fn with_reply(t: Text, reply: Reply) -> Text
     ensures { result ≡ appended t (reply_fields reply) }
 {
@@ -147,6 +143,7 @@ fn with_reply(t: Text, reply: Reply) -> Text
     with_taken(spaced(delivered), reply)
 }
 
+#[tactic(auto, using(text::proofs::Joined::appended_append), unfolding(crate::specs::Line::outcome_fields))]
 fn with_outcome(t: Text, o: Outcome) -> Text
     ensures { result ≡ appended t (outcome_fields o) }
 {
@@ -156,6 +153,7 @@ fn with_outcome(t: Text, o: Outcome) -> Text
 }
 
 // The line of the slot at a place, counted from 0, with the outcome after it.
+#[tactic(auto, using(text::proofs::Joined::appended_text), unfolding(crate::specs::Line::line_of))]
 pub fn line(place: u16, o: Outcome, reply: Reply) -> Text
     ensures { result ≡ text (line_of place o reply) }
 {

@@ -37,7 +37,8 @@ fn answer<R: Read, W: Write>(from: &mut R, to: &mut W) -> Result<(), Failure> {
     written.map_err(|_| Failure::NotWritten)
 }
 
-// The same lines in each program: one function for all would take `answer` as a closure, and require that it may be called.
+// The same lines in each program: one function for all would take `answer` as a closure and require that it may be called, or by a trait,
+// which wants a type and an impl in each program, no fewer lines.
 fn main(rt: HostRuntime) {
     let argument = rt.arg(1, &mut [0u8; 1]);
     if !PROGRAM.explains(argument, &mut rt.stderr()) {

@@ -18,10 +18,6 @@ unfolding appended
 appended_append t [] ys = refl
 appended_append t (x ∷ xs) ys = appended_append (pushed t x) xs ys
 
--- what is appended to what was appended
-pub then : (t : Text) (xs ys : List ℕ) {s r : Text} → s ≡ appended t xs → r ≡ appended s ys → r ≡ appended t (xs ++ ys)
-then t xs ys p q = q ∙ ap (λ (u : Text). appended u ys) p ∙ appended_append t xs ys
-
 -- the text by its parts
 text_with : List ℕ → ℕ → Text
 text_with bytes n = record { bytes = bytes; length = n }

@@ -1,16 +1,15 @@
 -- How many characters a number, a profile and a text take. Assumes nothing.
-use mathlib.Core.Path.{◌≡◌, refl, sym, subst}
+use mathlib.Core.Path.{◌≡◌, refl}
 use mathlib.Core.List.{List, ◌++◌}
 use Prim.Native.Nat.{ℕ, ◌≤◌, ◌<◌}
-use native.Mathlib.Nat.{min-eq_left, min-le_right}
+use native.Mathlib.Nat.{min-eq_left}
 use native.Mathlib.Omega.{arith}
 use lib.Dec.{ltb}
-use lib.ListN.{length, take, replicate, length-append, length-replicate}
-use lib.Seq.{length-take-le, take-take, take-append_seam}
+use lib.ListN.{length, take, replicate, length-append}
+use lib.Seq.{take-take, take-append_seam}
 use borrow.Author.Tests.{lt-ltb}
 use Rattle.ground.proofs.Test.{either_way}
 use Rattle.book.specs.declared.Entry.{Entry}
-use Rattle.text.specs.declared.Text.{Text}
 use Rattle.text.specs.Text.{room, text}
 use Rattle.text.specs.Numerals.{place_of, decimal_of, hex_of, parameters_of}
 
@@ -34,17 +33,7 @@ pub parameters_length : (p : Entry) → length (parameters_of p) ≡ 10
 unfolding parameters_of hex_of
 parameters_length p = refl
 
--- A text's characters stand in its bytes.
-
-bytes_all : (xs : List ℕ) → length (take room (xs ++ replicate room 0)) ≡ room
-bytes_all xs = length-take-le room (xs ++ replicate room 0) (rw (length-append, length-replicate) (omega arith))
-
-pub text_within : (xs : List ℕ) {t : Text} → t ≡ text xs → t.length ≤ length t.bytes
-unfolding text
-text_within xs e =
-    subst (λ (t : Text). t.length ≤ length t.bytes) (sym e) (rw (bytes_all xs) (min-le_right (length xs) room))
-
--- and are all of it that was to be said, where there was room
+-- A text's characters are all that was to be said, where there was room.
 pub text_whole : (xs : List ℕ) → length xs ≤ room → take (text xs).length (text xs).bytes ≡ xs
 unfolding text
 text_whole xs fits =

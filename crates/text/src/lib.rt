@@ -50,6 +50,7 @@ impl Text {
         self
     }
 
+    #[tactic(auto, using(crate::proofs::Writing::word_next, crate::proofs::Writing::word_end))]
     pub fn word(self, w: &[u8]) -> Text
         ensures { result ≡ appended self w.now }
     {
@@ -61,6 +62,7 @@ impl Text {
     }
 
     // The digit of one place; a leading one is left out.
+    #[tactic(auto, using(crate::proofs::Writing::place_left_out, crate::proofs::Writing::place_written))]
     fn place(self, n: u16, unit: u16) -> Text
         requires { 0 < unit }
         ensures { result ≡ appended self (place_of n unit) }
@@ -72,6 +74,7 @@ impl Text {
     }
 
     // Without leading zeros. By hand, as `hex` is: `write!` promises what it wrote only where it returns Ok, and this can't fail.
+    #[tactic(auto, using(crate::proofs::Writing::all_places))]
     pub fn decimal(self, n: u16) -> Text
         ensures { result ≡ appended self (decimal_of n) }
     {
@@ -83,6 +86,7 @@ impl Text {
     }
 
     // Two upper-case digits.
+    #[tactic(auto, using(crate::proofs::Writing::two_digits))]
     pub fn hex(self, b: u8) -> Text
         ensures { result ≡ appended self (hex_of b) }
     {
@@ -90,6 +94,7 @@ impl Text {
     }
 
     // The five parameters of a profile, each as two hex digits.
+    #[tactic(auto, using(crate::proofs::Joined::appended_append), unfolding(crate::specs::Numerals::parameters_of))]
     pub fn parameters(self, p: Entry) -> Text
         ensures { result ≡ appended self (parameters_of p) }
     {
@@ -97,6 +102,7 @@ impl Text {
     }
 }
 
+// One digit, which fits a byte.
 fn digit(d: u16) -> u8
     requires { d < 10 }
     ensures { result ≡ digit d }

@@ -55,7 +55,7 @@ module _ (w : ℕ) (o : Outbound) (i : Inbound) (h : Shown) (g : Drive) (heard :
               signals = signalled_sd m.signals leads g.flag;
               last = refl;
               off = λ p q. agreed_off i.last.bk g.flag i.standing.bk (m.last ∙ q) p;
-              unit = none refl (search f);
+              unit = none refl search;
             };
         units = refl;
         delivers = refl;

@@ -6,7 +6,7 @@ use Prim.Native.Nat.{ℕ, ◌≤◌}
 use native.Mathlib.Omega.{arith}
 use lib.Dec.{eqb, leb}
 use borrow.Author.Tests.{lt-ltb, le-leb}
-use Rattle.ground.proofs.Test.{by_test, both_left}
+use Rattle.ground.proofs.Test.{by_test}
 use Rattle.channel.specs.declared.byte.Leads.{Leads}
 use Rattle.channel.specs.declared.kind.Kind.{Kind}
 use Rattle.channel.specs.declared.kind.Kind.TheVariants.{Sgvi, Sgp, Sgr, Dl, Dh, Sd, Other}
@@ -15,7 +15,7 @@ use Rattle.channel.specs.declared.unit.Form.TheVariants.{Six, SevenV1, SevenV2, 
 use Rattle.channel.specs.Kinds.{kind_of}
 use Rattle.channel.specs.Forms.{is_data}
 use Rattle.protocol.specs.Opened.{pair_form, has_pair, fresh_line, Reading, reads_sd, reads_word, reads_idle, reads_six, reads_pair, reads_stream, reads_form, reading}
-use Rattle.protocol.specs.Ranges.{half_in, inbound_in}
+use Rattle.protocol.specs.Ranges.{inbound_in}
 use Rattle.protocol.specs.declared.Shape.{Shape}
 use Rattle.protocol.specs.declared.Shape.TheVariants as shape
 use Rattle.protocol.specs.declared.Inbound.{Inbound}
@@ -30,18 +30,9 @@ none_held : (s : Shape) (i : Inbound) → i.half ≡ None → i.pair ≡ 0 → i
 unfolding inbound_in
 none_held s i h p = rw (h, p) (or_right (has_pair s) refl)
 
--- the half that was held is in its range
-half_in_lem : (s : Shape) (i : Inbound) → inbound_in s i ≡ true → half_in s i.half ≡ true
-unfolding inbound_in
-half_in_lem s i e =
-    both_left (half_in s i.half) (leb i.pair 2) (both_left (half_in s i.half && leb i.pair 2) (has_pair s || eqb i.pair 0) e)
-
--- an Sd leaves no part of a pair, and whether it drops the half or not, that is in its range
-sd_kept : (s : Shape) (i : Inbound) (leads : Leads) (bk : Bool) → inbound_in s i ≡ true → Kept s (reads_sd i leads bk)
-unfolding inbound_in
-sd_kept s i leads bk e =
-    let h : half_in s (reads_sd i leads bk).inbound.half ≡ true = search (half_in_lem s i e) in
-    both (both h refl) (or_right (has_pair s) refl)
+-- an Sd leaves no half and no part of a pair
+sd_kept : (s : Shape) (i : Inbound) (leads : Leads) (bk : Bool) → Kept s (reads_sd i leads bk)
+sd_kept s i leads bk = none_held s (reads_sd i leads bk).inbound refl refl
 
 -- form 0: a low nibble may be held
 module _ (w : ℕ) (i : Inbound) (ranged : inbound_in (shape.Word w) i ≡ true) (byte : ℕ) where
@@ -51,7 +42,7 @@ module _ (w : ℕ) (i : Inbound) (ranged : inbound_in (shape.Word w) i ≡ true)
       by_test (Kept (shape.Word w)) i.standing.bk (λ t. refl)
       (λ t. both (both (lt-ltb x 16 (omega (arith, nibble_below byte))) refl) refl)
   word_kept (Dh x) c = by_test (Kept (shape.Word w)) i.standing.bk (λ t. refl) (λ t. refl)
-  word_kept (Sd s bk) c = sd_kept (shape.Word w) i s bk ranged
+  word_kept (Sd s bk) c = sd_kept (shape.Word w) i s bk
   word_kept Sgvi c = refl
   word_kept (Sgp k) c = refl
   word_kept Sgr c = refl
@@ -63,7 +54,7 @@ module _ (i : Inbound) (ranged : inbound_in (shape.Unit Six) i ≡ true) where
   unfolding inbound_in
   idle_kept (Dl x) = refl
   idle_kept (Dh x) = refl
-  idle_kept (Sd s bk) = sd_kept (shape.Unit Six) i s bk ranged
+  idle_kept (Sd s bk) = sd_kept (shape.Unit Six) i s bk
   idle_kept Sgvi = refl
   idle_kept (Sgp k) = refl
   idle_kept Sgr = refl
@@ -85,7 +76,7 @@ module _ (f : Form) (paired : pair_form f ≡ true) (i : Inbound) (ranged : inbo
   unfolding inbound_in
   pair_kept (Dl x) = by_test PairIn (eqb x 0) (λ t. pair_in_lem 1 (omega arith)) (λ t. pair_in_lem 0 (omega arith))
   pair_kept (Dh x) = by_test PairIn (eqb x 0 && eqb i.pair 1) (λ t. pair_in_lem 2 (omega arith)) (λ t. pair_in_lem 0 (omega arith))
-  pair_kept (Sd s bk) = sd_kept (shape.Unit f) i s bk ranged
+  pair_kept (Sd s bk) = sd_kept (shape.Unit f) i s bk
   pair_kept Sgvi = pair_in_lem 0 (omega arith)
   pair_kept (Sgp k) = pair_in_lem 0 (omega arith)
   pair_kept Sgr = pair_in_lem 0 (omega arith)
