@@ -105,8 +105,8 @@ pub struct Line {
 pub enum Phase {
     Exchanging {
         slot: u16,
-        // 0 for none, not an option: the definition `highest` gives it so, and 13 refuses a stored number that its phase can't have; an option would have
-        // Some(0) besides
+        // 0 for none, not an option: the definition `highest` gives it so, and 13 refuses a stored number that its phase can't have; an
+        // option would have Some(0) besides
         version: u8,
         awaited: Awaited,
         sending: Sending,
