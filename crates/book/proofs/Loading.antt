@@ -5,9 +5,10 @@ use mathlib.Core.List.{List, [], ◌∷◌, ◌++◌, append_assoc}
 use native.Mathlib.Omega.{arith}
 use native.Mathlib.Numerals.{add-one}
 use lib.ListN.{length, get_or, take, drop, replicate, set, length-append, length-drop}
-use lib.Seq.{set_at, get_or-take, get_or-drop, drop-drop}
+use lib.Seq.{set_at, drop-drop}
 use Rattle.std.specs.Simd.{first_chunks}
 use Rattle.std.proofs.lemmas.List.{take_rest}
+use Rattle.std.proofs.lemmas.Simd.{get_or-chunk}
 use Rattle.book.specs.declared.Entry.{Entry}
 use Rattle.book.specs.Book.{form_in, width_in, header_length, entry_length, most_entries, entry_start, entry_at, entries_of, no_entry, kept_entries}
 
@@ -22,24 +23,21 @@ chunk_at m zero i xs h = absurd (omega arith)
 chunk_at m (suc c) zero xs h = let z : m * 0 ≡ 0 = omega arith in rw z
 chunk_at m (suc c) (suc i) xs h = let k : m * suc i ≡ m + m * i = omega arith in rw (chunk_at m c i (drop m xs) (omega arith), drop-drop, k)
 
-module _ (s : List ℕ) (k : ℕ) where
-  in_chunk : (i : ℕ) → i < entry_length → get_or (take entry_length (drop k s)) i 0 ≡ get_or s (k + i) 0
-  in_chunk i h = get_or-take entry_length (drop k s) i 0 h ∙ get_or-drop k s i 0
-
-  -- the entry of a chunk
-  entry_in_chunk : entry_at (take entry_length (drop k s)) 0 ≡ entry_at s k
-  entry_in_chunk =
-      let z : k + 0 ≡ k = omega arith in
-      rw (
-        in_chunk 0 (omega arith),
-        in_chunk 1 (omega arith),
-        in_chunk 2 (omega arith),
-        in_chunk 3 (omega arith),
-        in_chunk 4 (omega arith),
-        in_chunk form_in (omega arith),
-        in_chunk width_in (omega arith),
-        z,
-      )
+-- the entry of a chunk
+entry_in_chunk : (s : List ℕ) (k : ℕ) → entry_at (take entry_length (drop k s)) 0 ≡ entry_at s k
+entry_in_chunk s k =
+    let byte = λ (i : ℕ) (h : i < entry_length). get_or-chunk k entry_length s i 0 h in
+    let z : k + 0 ≡ k = omega arith in
+    rw (
+      byte 0 (omega arith),
+      byte 1 (omega arith),
+      byte 2 (omega arith),
+      byte 3 (omega arith),
+      byte 4 (omega arith),
+      byte form_in (omega arith),
+      byte width_in (omega arith),
+      z,
+    )
 
 -- what follows the header, and its chunks
 abbrev rest : ℕ → List ℕ → List ℕ
