@@ -111,18 +111,20 @@ module _ (es : List Entry) where
   start out at = record { told = λ whole first f. f }
 
   module _ {out₀ : List ℕ} {at₀ i : ℕ} {out : List ℕ} {at : ℕ} (f : Telling es out₀ at₀ i out at) where
-    pub next : i < length es → {t : Text} → t ≡ text (entry_line i (get_or es i no_entry))
+    -- the line of the entry at k, where k is i
+    pub next : i < length es → {t : Text} {k : ℕ} → t ≡ text (entry_line k (get_or es i no_entry)) → k ≡ i
         → {r : ℕ} → r ≡ at + put_count t at out → {after : List ℕ} → after ≡ paste out at t.bytes (put_count t at out)
         → Telling es out₀ at₀ (i + 1) after r
     unfolding entry_lines
-    next h et er ef =
+    next h et ek er ef =
         let e = get_or es i no_entry in
+        let line = et ∙ ap (λ (j : ℕ). text (entry_line j e)) ek in
         let here : drop i es ≡ get_or es i no_entry ∷ drop (i + 1) es = rw (add-one, drop-cons es i no_entry h) in
         record {
           told =
               λ whole first g.
               go_on (entry_line i e) (entry_lines (i + 1) (drop (i + 1) es)) (omega (arith, entry_most i e))
-              (subst (λ (xs : List Entry). SoFar whole first (entry_lines i xs) out at) here (f.told whole first g)) et er ef;
+              (subst (λ (xs : List Entry). SoFar whole first (entry_lines i xs) out at) here (f.told whole first g)) line er ef;
         }
 
     pub finish : length es ≤ i → (whole first : List ℕ) → SoFar whole first (entry_lines 0 es) out₀ at₀ → SoFar whole first [] out at

@@ -1,8 +1,8 @@
 // What every program does with its input and its output: it reads all of the one, and tells where one of them failed.
 #![tactic(auto)]
 
-ghost use Rattle.std.specs.Prelude.{length, ◌≡◌, ◌<◌, IfOk};
-ghost use Rattle.std.specs.Io.KnownBytes.{IsAtEnd};
+ghost use Rattle.std.specs.Prelude.{length, ◌≡◌, ◌<◌, take, IfOk};
+ghost use Rattle.std.specs.Io.KnownBytes.{Consumes, IsAtEnd};
 ghost use Rattle.text.specs.Text.{text};
 ghost use Rattle.console.specs.Reading.{Within, came_of};
 ghost use Rattle.console.specs.Telling.{told_of, ended};
@@ -20,10 +20,12 @@ pub enum Failure {
     NotWritten,
 }
 
-// Reads until the buffer is full or the input ends; the reply is how many bytes stand at its start. An input that ends at once has been
-// read; one that is closed, or a directory, has not.
+// Reads until the buffer is full or the input ends; the reply is how many bytes stand at its start, and these are the first that the input
+// had left. An input that ends at once has been read; one that is closed, or a directory, has not.
+#[tactic(auto, using(crate::proofs::Reading::filled_on))]
 pub fn read_all<R: Read>(from: &mut R, buf: &mut [u8]) -> Result<usize, Failure>
     ensures within { Within (length buf.new) result }
+    ensures bytes { IfOk result (λ n. Consumes (R.remaining from.old) (R.remaining from.new) (take n buf.new)) }
     ensures end { IfOk result (λ n. n < length buf.new → IsAtEnd (R.remaining from.new)) }
 {
     let mut done = 0;
@@ -41,6 +43,7 @@ pub fn read_all<R: Read>(from: &mut R, buf: &mut [u8]) -> Result<usize, Failure>
 // One read. Of an input that has ended no byte comes.
 fn read_some<R: Read>(from: &mut R, buf: &mut [u8]) -> Result<usize, Failure>
     ensures within { Within (length buf.new) result }
+    ensures bytes { IfOk result (λ n. Consumes (R.remaining from.old) (R.remaining from.new) (take n buf.new)) }
     ensures end { IfOk result (λ n. n ≡ 0 → 0 < length buf.new → IsAtEnd (R.remaining from.new)) }
 {
     let read = from.read(buf);

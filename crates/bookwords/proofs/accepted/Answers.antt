@@ -10,7 +10,7 @@ loop-i-init c = start _ _ _
 pub loop-i-preserved : goal.loop-i-preserved
 loop-i-preserved c =
     next _ c.loop-i.invariant c.loop-i-test.true
-    c.entry_line.ensures c.put-at-in-loop-i.ensures.value c.put-at-in-loop-i.ensures.out_after
+    c.entry_line.ensures (omega arith) c.put-at-in-loop-i.ensures.value c.put-at-in-loop-i.ensures.out_after
 
 pub returns : goal.returns
 returns c =
