@@ -19,7 +19,7 @@ use Rattle.protocol.proofs.Calls.SlotReported.{opened_in_lem, refused_in_lem}
 use Rattle.protocol.proofs.Calls.FormEight.{eight_on_2}
 use Rattle.protocol.proofs.Calls.EachVote.{no_other_value}
 use Rattle.protocol.proofs.Calls.CallDetermined.{call_determined, sent_determined, delivered_determined, taken_determined}
-use Rattle.claims.specs.OneEnd.{refused_under, AnswersAll, NotPassed, CallHolds}
+use Rattle.claims.specs.OneEnd.{AnswersAll, NotPassed, CallHolds}
 
 pub answers_all : (e : Endpoint) (heard : ℕ) (g : Drive) → AnswersAll e heard g
 unfolding slot_of
@@ -27,8 +27,8 @@ answers_all e heard g =
     record {
       bad_state = λ w. rw w refl;
       bad_offer = slot_refused e heard g;
-      thirteen = λ w. rw w refl;
-      twelve = λ w o. ap (λ (a : SlotAnswer). refused_under a.reply) (slot_refused e heard g w o);
+      thirteen = refl;
+      twelve = refl;
       otherwise = slot_passes e heard g;
       kept = slot_kept e heard g;
     }
@@ -50,7 +50,7 @@ module _ (b : Book) (ok : book_ok b ≡ true) (heard : ℕ → ℕ) (given : ℕ
       let steps = step_refused e (heard t) (given t) (call_kept b ok heard given t) o in
       record {
         reply = ap (λ (a : SlotAnswer). a.reply) refused;
-        number = ap (λ (a : SlotAnswer). refused_under a.reply) refused;
+        number = refl;
         sent = ap (λ (s : Step). s.sent) steps;
         delivered = ap (λ (s : Step). s.delivered) steps;
         taken = ap (λ (s : Step). s.taken) steps;

@@ -1,11 +1,11 @@
 -- Any stored state in any slot, and any call from an accepted book. Assumes nothing.
-use Rattle.std.specs.Prelude.{◌≡◌, true, false, ◌⊎◌, ℕ, suc, ◌≤◌, None, Ok, Err}
+use Rattle.std.specs.Prelude.{◌≡◌, true, false, ◌⊎◌, ℕ, suc, ◌≤◌, None, Err}
 use Rattle.book.specs.declared.Entry.{Entry}
 use Rattle.book.specs.declared.Book.{Book}
 use Rattle.channel.specs.Bytes.{byte, sdidle}
 use Rattle.protocol.specs.Sent.{Silence, Alone, byte_sent}
 use Rattle.protocol.specs.Ranges.{well_formed}
-use Rattle.protocol.specs.Slot.{started, step_of, offer_allowed, Reply, passes, refuses, refusal_number, slot_of, passed_with}
+use Rattle.protocol.specs.Slot.{started, step_of, offer_allowed, passes, refuses, refusal_number, slot_of, passed_with}
 use Rattle.protocol.specs.Call.{end_at, sent_at, delivered_at, taken_at, stands_at}
 use Rattle.protocol.specs.Concluding.{LeavesIn, StaysOpen}
 use Rattle.protocol.specs.Votes.{Votes}
@@ -17,18 +17,13 @@ use Rattle.protocol.specs.declared.Signals.{Signals}
 use Rattle.protocol.specs.declared.Outcome.TheVariants.{Open, Refused}
 use Rattle.protocol.specs.declared.SlotRefusal.TheVariants.{UnitOutOfRange, OutsideRanges}
 
--- the number under which a slot is refused, 0 where it passes
-abbrev pub refused_under : Reply → ℕ
-refused_under (Err refusal) = refusal_number refusal
-refused_under (Ok passed) = 0
-
 -- any stored state, received byte and drive has a defined reply; what is refused gives back the state as it came
 pub record AnswersAll (e : Endpoint) (heard : ℕ) (g : Drive) : Type 0 where
   pub bad_state : well_formed e ≡ false → slot_of e heard g ≡ refuses e OutsideRanges
   pub bad_offer : well_formed e ≡ true → offer_allowed e g e.phase ≡ false → slot_of e heard g ≡ refuses e UnitOutOfRange
-  -- each under its number
-  pub thirteen : well_formed e ≡ false → refused_under (slot_of e heard g).reply ≡ 13
-  pub twelve : well_formed e ≡ true → offer_allowed e g e.phase ≡ false → refused_under (slot_of e heard g).reply ≡ 12
+  -- the numbers of these two refusals
+  pub thirteen : refusal_number OutsideRanges ≡ 13
+  pub twelve : refusal_number UnitOutOfRange ≡ 12
   pub otherwise : well_formed e ≡ true → offer_allowed e g e.phase ≡ true → slot_of e heard g ≡ passes (step_of e heard g)
   -- and a state that is in its ranges stays so
   pub kept : well_formed e ≡ true → well_formed (slot_of e heard g).state ≡ true
@@ -36,7 +31,7 @@ pub record AnswersAll (e : Endpoint) (heard : ℕ) (g : Drive) : Type 0 where
 -- a slot of a call that 12 refuses
 pub record NotPassed (e : Endpoint) (heard : ℕ → ℕ) (given : ℕ → Drive) (t : ℕ) : Type 0 where
   pub reply : (slot_of (end_at e heard given t) (heard t) (given t)).reply ≡ Err UnitOutOfRange
-  pub number : refused_under (slot_of (end_at e heard given t) (heard t) (given t)).reply ≡ 12
+  pub number : refusal_number UnitOutOfRange ≡ 12
   pub sent : sent_at e heard given t ≡ Silence
   pub delivered : delivered_at e heard given t ≡ None
   pub taken : taken_at e heard given t ≡ false

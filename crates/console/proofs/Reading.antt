@@ -15,36 +15,23 @@ use Rattle.std.specs.Io.KnownBytes.{Consumes, IsAtEnd, ReadConsumes}
 use Rattle.console.specs.declared.Failure.{Failure}
 use Rattle.console.specs.Reading.{Within, came_of}
 
-within : {E : Type 0} (read : Result ℕ E) (n : ℕ) → Within n (came_of read n)
+pub within : {E : Type 0} (read : Result ℕ E) (n : ℕ) → Within n (came_of read n)
 unfolding came_of
 within (Ok k) n = omega arith
 within (Err e) n = refl
 
-pub came_within : {E : Type 0} (read : Result ℕ E) (n : ℕ) {r : Result ℕ Failure} → r ≡ came_of read n → Within n r
-came_within read n is = subst (Within n) (sym is) (within read n)
-
-ends : {E : Type 0} (read : Result ℕ E) (buf : List ℕ) (old new : Option (List ℕ)) → ReadConsumes old new read buf
+pub ends : {E : Type 0} (read : Result ℕ E) (buf : List ℕ) (old new : Option (List ℕ)) → ReadConsumes old new read buf
     → IfOk (came_of read (length buf)) (λ n. n ≡ 0 → 0 < length buf → IsAtEnd new)
 unfolding came_of
 ends (Ok k) buf old new consumes = λ none more. consumes.1 (omega arith) more
 ends (Err e) buf old new consumes = tt
 
-pub came_ends : {E : Type 0} (read : Result ℕ E) (buf : List ℕ) (old new : Option (List ℕ)) {r : Result ℕ Failure} → ReadConsumes old new read buf
-    → r ≡ came_of read (length buf) → IfOk r (λ n. n ≡ 0 → 0 < length buf → IsAtEnd new)
-came_ends read buf old new {r} consumes is =
-    subst (λ (r : Result ℕ Failure). IfOk r (λ n. n ≡ 0 → 0 < length buf → IsAtEnd new)) (sym is) (ends read buf old new consumes)
-
-gives : {E : Type 0} (read : Result ℕ E) (buf : List ℕ) (old new : Option (List ℕ)) → ReadsAtMost read buf → ReadConsumes old new read buf
+pub gives : {E : Type 0} (read : Result ℕ E) (buf : List ℕ) (old new : Option (List ℕ)) → ReadsAtMost read buf → ReadConsumes old new read buf
     → IfOk (came_of read (length buf)) (λ n. Consumes old new (take n buf))
 unfolding came_of
 gives (Ok k) buf old new most consumes =
     subst (λ (n : ℕ). Consumes old new (take n buf)) (sym (min-eq_left most.0)) consumes.0
 gives (Err e) buf old new most consumes = tt
-
-pub came_gives : {E : Type 0} (read : Result ℕ E) (buf : List ℕ) (old new : Option (List ℕ)) {r : Result ℕ Failure} → ReadsAtMost read buf
-    → ReadConsumes old new read buf → r ≡ came_of read (length buf) → IfOk r (λ n. Consumes old new (take n buf))
-came_gives read buf old new {r} most consumes is =
-    subst (λ (r : Result ℕ Failure). IfOk r (λ n. Consumes old new (take n buf))) (sym is) (gives read buf old new most consumes)
 
 -- what came before, and then the n bytes that were read into the rest of the buffer
 pub filled_on : (a b c : Option (List ℕ)) (buf part : List ℕ) (done n : ℕ) → done ≤ length buf → n ≤ length part
